@@ -1,0 +1,3 @@
+pub mod Ring
+pub mod Bitwise
+pub mod Blocks

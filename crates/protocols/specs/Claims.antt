@@ -1,0 +1,121 @@
+-- What this crate claims of the protocols, as types; proofs/Claims.antt proves each.
+-- Everywhere m is a modulus and n stands for words of 2 ^ n bits; nothing is assumed of shares and drawn words but that each is a word.
+use Prim.Native.Nat.{ℕ, suc, _+_, _-_, _*_, _/_, _^_, _≤_, _<_}
+use mathlib.Core.Path.{_≡_}
+use mathlib.Core.Bool.{cond}
+use lib.Dec.{eqb}
+use Rattle.protocols.specs.declared.shares.Shares.{Shares}
+use Rattle.protocols.specs.Word.{width, modulus, add, sub, mul, bitAt}
+use Rattle.protocols.specs.Shares.{AreWords, Operands, sumOf, xorOf}
+use Rattle.protocols.specs.Place.{Tapes, counts}
+use Rattle.protocols.specs.Protocol.{locally}
+use Rattle.protocols.specs.Store.{store}
+use Rattle.protocols.specs.Local.{sum, difference, multiple, shifted}
+use Rattle.protocols.specs.Reshare.{reshare}
+use Rattle.protocols.specs.Multiply.{multiply}
+use Rattle.protocols.specs.Bit.{bit}
+use Rattle.protocols.specs.Bits.{source, roundS, roundP, bits}
+use Rattle.protocols.specs.Equal.{foldShare, equal}
+use Rattle.protocols.specs.Open.{opening}
+use Rattle.protocols.specs.Below.{below}
+use Rattle.protocols.specs.Contents.{Contents}
+use Rattle.protocols.specs.Counts.{Counted, received}
+use Rattle.protocols.specs.Blind.{Observer, SameShares, SameOperands, SameOpened, Blind}
+use Rattle.protocols.specs.WordForm.{wordS, wordP, wordFold}
+
+abbrev pub OperandsAreWords : ℕ → Operands → Type 0
+OperandsAreWords m x = AreWords m (x .u) × AreWords m (x .v)
+
+-- ---- 1. New shares combine to the right word, whatever is drawn.
+
+-- over any modulus
+pub record RingCombines (m : ℕ) : Type 0 where
+  pub store-combines : (v : ℕ) → v < m → (b : Tapes) → sumOf m (store m .result v b) ≡ v
+  pub sum-combines : (x : Operands) → sumOf m (sum m x) ≡ add m (sumOf m (x .u)) (sumOf m (x .v))
+  pub difference-combines : (x : Operands) → sumOf m (difference m x) ≡ sub m (sumOf m (x .u)) (sumOf m (x .v))
+  pub shifted-combines : (c : ℕ) (u : Shares) → sumOf m (shifted m c u) ≡ add m (sumOf m u) c
+  pub multiple-combines : (c : ℕ) (u : Shares) → sumOf m (multiple m c u) ≡ mul m (sumOf m u) c
+  pub reshare-combines : (u : Shares) (b : Tapes) → sumOf m (reshare m .result u b) ≡ sumOf m u
+  pub multiply-combines : (x : Operands) (b : Tapes) → sumOf m (multiply m .result x b) ≡ mul m (sumOf m (x .u)) (sumOf m (x .v))
+  pub opening-combines : (u : Shares) (b : Tapes) → sumOf m (opening m .result u b) ≡ sumOf m u
+
+-- over words of 2 ^ n bits
+pub record BitsCombine (n : ℕ) : Type 0 where
+  pub bit-combines : (j : ℕ) (u : Shares) (b : Tapes) → sumOf (modulus n) (bit (modulus n) j .result u b) ≡ bitAt (xorOf u) j
+  pub bits-combines : (u : Shares) → AreWords (modulus n) u → (b : Tapes) → Contents (modulus n) (bits n .draws) b
+      → xorOf (bits n .result u b) ≡ sumOf (modulus n) u
+  pub equal-combines : (x : Operands) → OperandsAreWords (modulus n) x → (b : Tapes) → Contents (modulus n) (equal n .draws) b
+      → sumOf (modulus n) (equal n .result x b) ≡ cond (eqb (sumOf (modulus n) (x .u)) (sumOf (modulus n) (x .v))) 1 0
+  pub below-combines : (x : Operands) → OperandsAreWords (modulus n) x → (b : Tapes) → Contents (modulus n) (below n .draws) b
+      → sumOf (modulus n) (below n .result x b) ≡ bitAt (sub (modulus n) (sumOf (modulus n) (x .u)) (sumOf (modulus n) (x .v))) (width n - 1)
+
+abbrev pub Combines : Type 0
+Combines = ((m : ℕ) → 0 < m → RingCombines m) × ((n : ℕ) → BitsCombine n)
+
+-- ---- 2. Each protocol draws and delivers exactly the counts of document 01's table, and every word that it makes is a word.
+
+pub record Table (n : ℕ) : Type 0 where
+  pub store-counts : Counted (modulus n) (store (modulus n)) (λ v. v < modulus n) (AreWords (modulus n)) (counts 2 0 0 0) (received 1 1 1 0)
+  pub sum-counts : Counted (modulus n) (locally (sum (modulus n))) (OperandsAreWords (modulus n)) (AreWords (modulus n)) (counts 0 0 0 0) (received 0 0 0 0)
+  pub difference-counts : Counted (modulus n) (locally (difference (modulus n))) (OperandsAreWords (modulus n)) (AreWords (modulus n)) (counts 0 0 0 0) (received 0 0 0 0)
+  pub shifted-counts : (c : ℕ) → Counted (modulus n) (locally (shifted (modulus n) c)) (AreWords (modulus n)) (AreWords (modulus n)) (counts 0 0 0 0) (received 0 0 0 0)
+  pub multiple-counts : (c : ℕ) → Counted (modulus n) (locally (multiple (modulus n) c)) (AreWords (modulus n)) (AreWords (modulus n)) (counts 0 0 0 0) (received 0 0 0 0)
+  pub multiply-counts : Counted (modulus n) (multiply (modulus n)) (OperandsAreWords (modulus n)) (AreWords (modulus n)) (counts 0 2 2 2) (received 4 4 4 0)
+  pub reshare-counts : Counted (modulus n) (reshare (modulus n)) (AreWords (modulus n)) (AreWords (modulus n)) (counts 0 1 1 1) (received 1 1 1 0)
+  pub bits-counts : Counted (modulus n) (bits n) (AreWords (modulus n)) (AreWords (modulus n))
+      (counts 0 (5 + 2 * n) (2 + 2 * n) (2 + 2 * n)) (received (2 + 4 * n) (5 + 4 * n) (5 + 4 * n) 0)
+  pub bit-counts : (j : ℕ) → Counted (modulus n) (bit (modulus n) j) (AreWords (modulus n)) (AreWords (modulus n)) (counts 0 3 0 0) (received 0 3 3 0)
+  pub equal-counts : Counted (modulus n) (equal n) (OperandsAreWords (modulus n)) (AreWords (modulus n))
+      (counts 0 (5 + n) (1 + n) (1 + n)) (received (1 + 2 * n) (5 + 2 * n) (5 + 2 * n) 0)
+  pub opening-counts : Counted (modulus n) (opening (modulus n)) (AreWords (modulus n)) (AreWords (modulus n)) (counts 0 1 1 1) (received 1 1 1 3)
+  pub below-counts : Counted (modulus n) (below n) (OperandsAreWords (modulus n)) (AreWords (modulus n))
+      (counts 0 (8 + 2 * n) (2 + 2 * n) (2 + 2 * n)) (received (2 + 4 * n) (8 + 4 * n) (8 + 4 * n) 0)
+
+-- at 32 bits, the numbers of the table
+pub record TableNumbers : Type 0 where
+  pub bits-drawn : bits 5 .draws ≡ counts 0 15 12 12
+  pub equal-drawn : equal 5 .draws ≡ counts 0 10 6 6
+  pub below-drawn : below 5 .draws ≡ counts 0 18 12 12
+  pub bits-received : received (2 + 4 * 5) (5 + 4 * 5) (5 + 4 * 5) 0 ≡ received 22 25 25 0
+  pub equal-received : received (1 + 2 * 5) (5 + 2 * 5) (5 + 2 * 5) 0 ≡ received 11 15 15 0
+  pub below-received : received (2 + 4 * 5) (8 + 4 * 5) (8 + 4 * 5) 0 ≡ received 22 28 28 0
+
+-- ---- 3. Each protocol is blind for a miner, for the controller, and for a miner that is controller too.
+
+pub record BlindProtocols (n : ℕ) (o : Observer) : Type 0 where
+  pub store-blind : Blind (modulus n) o (store (modulus n)) (λ v. v < modulus n) (λ v v′. Unit {0}) (SameShares o)
+  pub sum-blind : Blind (modulus n) o (locally (sum (modulus n))) (OperandsAreWords (modulus n)) (SameOperands o) (SameShares o)
+  pub difference-blind : Blind (modulus n) o (locally (difference (modulus n))) (OperandsAreWords (modulus n)) (SameOperands o) (SameShares o)
+  pub shifted-blind : (c : ℕ) → Blind (modulus n) o (locally (shifted (modulus n) c)) (AreWords (modulus n)) (SameShares o) (SameShares o)
+  pub multiple-blind : (c : ℕ) → Blind (modulus n) o (locally (multiple (modulus n) c)) (AreWords (modulus n)) (SameShares o) (SameShares o)
+  pub multiply-blind : Blind (modulus n) o (multiply (modulus n)) (OperandsAreWords (modulus n)) (SameOperands o) (SameShares o)
+  pub reshare-blind : Blind (modulus n) o (reshare (modulus n)) (AreWords (modulus n)) (SameShares o) (SameShares o)
+  pub bits-blind : Blind (modulus n) o (bits n) (AreWords (modulus n)) (SameShares o) (SameShares o)
+  pub bit-blind : (j : ℕ) → Blind (modulus n) o (bit (modulus n) j) (AreWords (modulus n)) (SameShares o) (SameShares o)
+  pub equal-blind : Blind (modulus n) o (equal n) (OperandsAreWords (modulus n)) (SameOperands o) (SameShares o)
+  pub opening-blind : Blind (modulus n) o (opening (modulus n)) (AreWords (modulus n)) (SameOpened (modulus n) o) (SameShares o)
+  pub below-blind : Blind (modulus n) o (below n) (OperandsAreWords (modulus n)) (SameOperands o) (SameShares o)
+
+-- ---- 4. The code's masks and shifts are the position-wise rounds, for every round k of every width.
+
+pub record WordForms (n k : ℕ) : Type 0 where
+  pub form-s : (p p′ s s′ : ℕ) → s < modulus n → wordS n k p p′ s s′ ≡ roundS (width n) k p p′ s s′
+  pub form-p : (p p′ : ℕ) → wordP n k p p′ ≡ roundP (width n) k p p′
+  pub form-fold : (p p′ : ℕ) → wordFold n k p p′ ≡ foldShare (width n) k p p′
+
+-- 01: a position takes from 'the highest lower position whose bit k is clear and whose higher bits agree'
+pub record SourceIs (k j : ℕ) : Type 0 where
+  pub lower : source k j < j
+  pub clear : bitAt (source k j) k ≡ 0
+  pub agrees : source k j / 2 ^ suc k ≡ j / 2 ^ suc k
+  pub highest : (i : ℕ) → i < j → bitAt i k ≡ 0 → i / 2 ^ suc k ≡ j / 2 ^ suc k → i ≤ source k j
+
+-- ---- all of it
+
+pub record Claims : Type 0 where
+  pub combine : Combines
+  pub table : (n : ℕ) → Table n
+  pub numbers : TableNumbers
+  pub blind : (n : ℕ) (o : Observer) → BlindProtocols n o
+  pub word-forms : (n k : ℕ) → k < n → WordForms n k
+  pub sources : (k j : ℕ) → bitAt j k ≡ 1 → SourceIs k j

@@ -1,0 +1,20 @@
+-- What the protocols are, in the papers' order, and what is claimed of them.
+pub mod Word
+pub mod Shares
+pub mod Place
+pub mod Protocol
+pub mod Store
+pub mod Local
+pub mod Reshare
+pub mod Multiply
+pub mod Bit
+pub mod Masked
+pub mod Bits
+pub mod Equal
+pub mod Open
+pub mod Below
+pub mod Contents
+pub mod Counts
+pub mod Blind
+pub mod WordForm
+pub mod Claims
