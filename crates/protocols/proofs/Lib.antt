@@ -1,3 +1,4 @@
 pub mod Ring
 pub mod Bitwise
 pub mod Blocks
+pub mod Messages

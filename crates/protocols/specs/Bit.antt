@@ -44,8 +44,9 @@ converted m u t =
 -- 'Miner 2 receives m12, b12; miner 3 receives m13, b13', and then the exchange
 unfoldable pub bit : ℕ → ℕ → Protocol Shares Shares
 bit m j = record {
-    draws = counts 0 3 0 0;
-    result = λ u t. converted m (bitsAt j u) t;
-    received = λ u t.
-        to-two-three (m₁₂ t) (m₁₃ m (bitsAt j u) t) followed-by to-two-three (b₁₂ t) (b₁₃ t)
-          followed-by to-two-three (s₃₂ (bitsAt j u) t) (s₂₃ (bitsAt j u) t) }
+  draws = counts 0 3 0 0;
+  result = λ u t. converted m (bitsAt j u) t;
+  received = λ u t.
+      to-two-three (m₁₂ t) (m₁₃ m (bitsAt j u) t) followed-by to-two-three (b₁₂ t) (b₁₃ t)
+      followed-by to-two-three (s₃₂ (bitsAt j u) t) (s₂₃ (bitsAt j u) t);
+}

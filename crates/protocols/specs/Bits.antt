@@ -34,21 +34,24 @@ dealt m u t =
       p = shares 0 (bitXor v (word t one 2)) (R₃ t);
       s = shares 0 (bitAnd v (word t one 2)) (bitAnd v (R₃ t));
       v2 = v₂ m u t;
-      v3 = v₃ m u t }
+      v3 = v₃ m u t;
+    }
 
 -- 'Miners 2 and 3 receive r_i, then R_i'
 unfoldable pub deal : ℕ → Protocol Shares Dealt
 deal n = record {
-    draws = counts 0 3 0 0;
-    result = dealt (modulus n);
-    received = λ u t. to-two-three (word t one 1) (r₃ (modulus n) u t) followed-by to-two-three (word t one 2) (R₃ t) }
+  draws = counts 0 3 0 0;
+  result = dealt (modulus n);
+  received = λ u t. to-two-three (word t one 1) (r₃ (modulus n) u t) followed-by to-two-three (word t one 2) (R₃ t);
+}
 
 -- lines 4 and 6: 'Each miner draws q, t and sends them on. Miners 2 and 3 exchange u_i + r_i'
 unfoldable pub exchange : Protocol Dealt Held
 exchange = record {
-    draws = counts 0 2 2 2;
-    result = λ d t. record { p = d .p; s = d .s; q = words t 0; t = words t 1; base = d .p };
-    received = λ d t. to-next (words t 0) followed-by to-next (words t 1) followed-by to-two-three (d .v3) (d .v2) }
+  draws = counts 0 2 2 2;
+  result = λ d t. record { p = d .p; s = d .s; q = words t 0; t = words t 1; base = d .p };
+  received = λ d t. to-next (words t 0) followed-by to-next (words t 1) followed-by to-two-three (d .v3) (d .v2);
+}
 
 -- ---- lines 13 to 21: round k
 
@@ -61,7 +64,7 @@ source k j = 2 ^ k + 2 ^ suc k * (j / 2 ^ suc k) - 1
 unfoldable pub roundS : ℕ → ℕ → ℕ → ℕ → ℕ → ℕ → ℕ
 roundS w k p p′ s s′ =
     ofBits w (λ j. choose (bitAt j k) (bitAt s j)
-      (bitXor (bitAt s j) (andShare (bitAt p j) (bitAt p′ j) (bitAt s (source k j)) (bitAt s′ (source k j)))))
+    (bitXor (bitAt s j) (andShare (bitAt p j) (bitAt p′ j) (bitAt s (source k j)) (bitAt s′ (source k j)))))
 
 -- line 21: 'p = p and p′'
 unfoldable pub roundP : ℕ → ℕ → ℕ → ℕ → ℕ
@@ -71,17 +74,21 @@ roundP w k p p′ =
 -- lines 18 to 21 on every miner's masked shares p, s, with the masks of the next round
 abbrev pub carried : ℕ → ℕ → Shares → Shares → Shares → Shares → Shares → Held
 carried w k p s q t base = record {
-    p = each (λ i. roundP w k (at i p) (at (prev i) p));
-    s = each (λ i. roundS w k (at i p) (at (prev i) p) (at i s) (at (prev i) s));
-    q = q; t = t; base = base }
+  p = each (λ i. roundP w k (at i p) (at (prev i) p));
+  s = each (λ i. roundS w k (at i p) (at (prev i) p) (at i s) (at (prev i) s));
+  q = q;
+  t = t;
+  base = base;
+}
 
 -- lines 14 to 17: 'mask p and s with own and previous q and t by exclusive or, send p, s on, then draw and send new q, t'
 unfoldable pub round : ℕ → ℕ → Protocol Held Held
 round n k = record {
-    draws = counts 0 2 2 2;
-    result = λ h t. carried (width n) k (masked (h .p) (h .q)) (masked (h .s) (h .t)) (words t 0) (words t 1) (h .base);
-    received = λ h t.
-        to-next (masked (h .p) (h .q)) followed-by to-next (masked (h .s) (h .t)) followed-by to-next (words t 0) followed-by to-next (words t 1) }
+  draws = counts 0 2 2 2;
+  result = λ h t. carried (width n) k (masked (h .p) (h .q)) (masked (h .s) (h .t)) (words t 0) (words t 1) (h .base);
+  received = λ h t.
+      to-next (masked (h .p) (h .q)) followed-by to-next (masked (h .s) (h .t)) followed-by to-next (words t 0) followed-by to-next (words t 1);
+}
 
 -- the dealing and the first k rounds
 unfoldable pub rounds : ℕ → ℕ → Protocol Shares Held

@@ -19,15 +19,16 @@ r₃ m x t = sub m (sub m (x .u .one) (x .v .one)) (word t one 0)
 abbrev pub compared : ℕ → Operands → Tapes → Shares
 compared m x t =
     shares (m - 1)
-      (add m (sub m (x .u .two) (x .v .two)) (word t one 0))
-      (sub m 0 (add m (sub m (x .u .three) (x .v .three)) (r₃ m x t)))
+    (add m (sub m (x .u .two) (x .v .two)) (word t one 0))
+    (sub m 0 (add m (sub m (x .u .three) (x .v .three)) (r₃ m x t)))
 
 -- 'miners 2 and 3 receive theirs'
 unfoldable pub compare : ℕ → Protocol Operands Shares
 compare n = record {
-    draws = counts 0 1 0 0;
-    result = compared (modulus n);
-    received = λ x t. to-two-three (word t one 0) (r₃ (modulus n) x t) }
+  draws = counts 0 1 0 0;
+  result = compared (modulus n);
+  received = λ x t. to-two-three (word t one 0) (r₃ (modulus n) x t);
+}
 
 -- 'Each draws and sends q'
 unfoldable pub begin : Protocol Shares Folding
@@ -46,9 +47,10 @@ folded w k p q = record { p = each (λ i. foldShare w k (at i p) (at (prev i) p)
 -- 'Five masked rounds as above, p and q only'
 unfoldable pub fold : ℕ → ℕ → Protocol Folding Folding
 fold n k = record {
-    draws = counts 0 1 1 1;
-    result = λ h t. folded (width n) k (masked (h .p) (h .q)) (words t 0);
-    received = λ h t. to-next (masked (h .p) (h .q)) followed-by to-next (words t 0) }
+  draws = counts 0 1 1 1;
+  result = λ h t. folded (width n) k (masked (h .p) (h .q)) (words t 0);
+  received = λ h t. to-next (masked (h .p) (h .q)) followed-by to-next (words t 0);
+}
 
 -- the comparison and the first k rounds
 unfoldable pub folds : ℕ → ℕ → Protocol Operands Folding

@@ -3,6 +3,7 @@ pub mod Word
 pub mod Shares
 pub mod Place
 pub mod Protocol
+pub mod Outcome
 pub mod Store
 pub mod Local
 pub mod Reshare

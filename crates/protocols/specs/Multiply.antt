@@ -21,7 +21,8 @@ masked-v m x b = fresh m (x .v) (words b 1)
 -- 'miner i draws r_i, then s_i, and sends both on', then 'sends both on' of u'_i, v'_i
 unfoldable pub multiply : ℕ → Protocol Operands Shares
 multiply m = record {
-    draws = counts 0 2 2 2;
-    result = λ x b. product m (masked-u m x b) (masked-v m x b);
-    received = λ x b.
-        to-next (words b 0) followed-by to-next (words b 1) followed-by to-next (masked-u m x b) followed-by to-next (masked-v m x b) }
+  draws = counts 0 2 2 2;
+  result = λ x b. product m (masked-u m x b) (masked-v m x b);
+  received = λ x b.
+      to-next (words b 0) followed-by to-next (words b 1) followed-by to-next (masked-u m x b) followed-by to-next (masked-v m x b);
+}

@@ -8,6 +8,7 @@ use Rattle.protocols.specs.Reshare.{fresh}
 -- 'reshare, but the fresh shares go to the controller, in miner order'; the table's shares are not these
 unfoldable pub opening : ℕ → Protocol Shares Shares
 opening m = record {
-    draws = counts 0 1 1 1;
-    result = λ s b. fresh m s (words b 0);
-    received = λ s b. to-next (words b 0) followed-by to-controller (fresh m s (words b 0)) }
+  draws = counts 0 1 1 1;
+  result = λ s b. fresh m s (words b 0);
+  received = λ s b. to-next (words b 0) followed-by to-controller (fresh m s (words b 0));
+}

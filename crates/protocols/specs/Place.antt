@@ -96,7 +96,6 @@ abbrev pub silence : Lists
 silence = lists [] [] [] []
 
 infixr 60 _followed-by_
-
 abbrev pub _followed-by_ : Lists → Lists → Lists
 _followed-by_ a b = lists (a .one ++ b .one) (a .two ++ b .two) (a .three ++ b .three) (a .controller ++ b .controller)
 
@@ -141,8 +140,8 @@ draw i l p = cond (ltb (count i (p .drawn)) (length l)) (Word (getD l (count i (
 unfoldable pub enough : Drawn → Place → Tapes → Bool
 enough n p t =
     leb (n .provider) (length (t .provider) - p .drawn .provider)
-      && (leb (n .one) (length (t .one) - p .drawn .one)
-        && (leb (n .two) (length (t .two) - p .drawn .two) && leb (n .three) (length (t .three) - p .drawn .three)))
+    && (leb (n .one) (length (t .one) - p .drawn .one)
+    && (leb (n .two) (length (t .two) - p .drawn .two) && leb (n .three) (length (t .three) - p .drawn .three)))
 
 -- the next n words of each tape
 unfoldable pub block : Drawn → Place → Tapes → Tapes

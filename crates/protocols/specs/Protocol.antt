@@ -17,13 +17,13 @@ abbrev pub locally : {S T : Type 0} → (S → T) → Protocol S T
 locally f = record { draws = counts 0 0 0 0; result = λ s b. f s; received = λ s b. silence }
 
 infixr 20 _then_
-
 -- one after the other
 unfoldable pub _then_ : {S T Z : Type 0} → Protocol S T → Protocol T Z → Protocol S Z
 _then_ f g = record {
-    draws = plus (f .draws) (g .draws);
-    result = λ s b. g .result (f .result s (cut (f .draws) b)) (rest (f .draws) b);
-    received = λ s b. f .received s (cut (f .draws) b) followed-by g .received (f .result s (cut (f .draws) b)) (rest (f .draws) b) }
+  draws = plus (f .draws) (g .draws);
+  result = λ s b. g .result (f .result s (cut (f .draws) b)) (rest (f .draws) b);
+  received = λ s b. f .received s (cut (f .draws) b) followed-by g .received (f .result s (cut (f .draws) b)) (rest (f .draws) b);
+}
 
 -- ---- a protocol on lent tapes, from a place
 

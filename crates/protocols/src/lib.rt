@@ -1,5 +1,8 @@
 // Sharemind's ring and bit protocols for three miners, over lent tapes.
-pub mod shares;
-pub mod place;
+// Each public protocol answers the new shares, the words that each party receives and the moved place, or that a tape is spent.
 pub mod bits;
 pub mod equal;
+pub mod message;
+pub mod outcome;
+pub mod place;
+pub mod shares;

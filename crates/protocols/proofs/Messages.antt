@@ -1,0 +1,40 @@
+-- Messages: words pushed one after the other, and their copy into the front of a tail.
+use mathlib.Core.Path.{_≡_, refl, sym, ap, _∙_}
+use mathlib.Core.List.{List, [], _∷_, _++_}
+use Prim.Native.Nat.{ℕ, suc, _+_, _≤_, _<_}
+use native.Mathlib.Nat.{zero-add}
+use native.Mathlib.Numerals.{add-one}
+use native.Mathlib.Omega.{arith}
+use lib.ListN.{length, take, drop, set, getD}
+use lib.Seq.{sets, sets-eq, paste, paste-suc, length-take-le}
+use Rattle.protocols.specs.declared.message.Message.{Message}
+use Rattle.protocols.specs.declared.message.Sent.{Sent}
+use Rattle.protocols.specs.Place.{Lists, _followed-by_}
+use Rattle.protocols.specs.Outcome.{pushed, pushes, append, sent}
+
+-- ---- words after words
+
+pub pushes-append : (x : Message) (l r : List ℕ) → pushes (pushes x l) r ≡ pushes x (l ++ r)
+pushes-append x [] r = refl
+pushes-append x (w ∷ l) r = pushes-append (pushed x w) l r
+
+pub append-sent : (l r : Lists) → append (sent l) r ≡ sent (l followed-by r)
+append-sent l r = cc (pushes-append _ (l .one) (r .one), pushes-append _ (l .two) (r .two), pushes-append _ (l .three) (r .three), pushes-append _ (l .controller) (r .controller))
+
+-- ---- a copy, word by word
+
+pub paste-word : (d w t : List ℕ) (i : ℕ) → t ≡ paste d 0 w i → i < length d → i < length w → set t i (getD w i 0) ≡ paste d 0 w (i + 1)
+paste-word d w t i e h g =
+    ap (λ (x : List ℕ). set x i (getD w i 0)) e
+    ∙ ap (λ (k : ℕ). set (paste d 0 w i) k (getD w i 0)) (sym (zero-add i))
+    ∙ paste-suc d 0 w i 0 (omega arith) g
+    ∙ ap (λ (k : ℕ). paste d 0 w k) (sym (add-one i))
+
+pub paste-sets : (d w t : List ℕ) (n i : ℕ) → i ≤ n → n ≤ i → t ≡ paste d 0 w i → n ≤ length d → n ≤ length w → t ≡ sets d 0 (take n w)
+paste-sets d w t n i a b e h g =
+    let s : i ≡ n = omega arith in
+    let k : length (take n w) ≡ n = length-take-le n w g in
+    e
+    ∙ ap (λ (m : ℕ). paste d 0 w m) s
+    ∙ ap (λ (m : ℕ). take 0 d ++ take n w ++ drop (0 + m) d) (sym k)
+    ∙ sym (sets-eq (take n w) d 0 (omega arith))

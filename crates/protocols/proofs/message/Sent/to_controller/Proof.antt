@@ -1,0 +1,25 @@
+use borrow.Author.Needs.{needs}
+use Rattle.protocols.proofs.message.Sent.to_controller.Statement.{statement}
+use Rattle.protocols.proofs.message.Sent.to_controller.Tie as tie
+use Rattle.protocols.proofs.message.Sent.to_controller.Reads as reads
+use Rattle.protocols.proofs.message.Sent.to_controller.Lts as lts
+use Rattle.protocols.proofs.message.Message.push.Reads as push-reads
+
+-- src/message.rt:140:25
+push-requires : tie.Need-push-requires
+push-requires c κs = search needs
+
+-- src/message.rt:140:25
+push-requires-2 : tie.Need-push-requires-2
+push-requires-2 c κs = search needs
+
+-- src/message.rt:140:25
+push-requires-3 : tie.Need-push-requires-3
+push-requires-3 c κs = search needs
+
+-- src/message.rt:129:5
+returns : tie.Need-returns
+returns c = rw ((c .push3) .ensures, (c .before .push2) .ensures, (c .before .before .push) .ensures)
+
+pub to-controller-spec : {M : Type 1} → statement M
+to-controller-spec = tie.close (tie.spec push-requires push-requires-2 push-requires-3 returns)

@@ -1,0 +1,66 @@
+-- What the code answers, as values: each party's words, the outcome of a protocol, and a delivery.
+use Prim.Native.Nat.{ℕ, _+_}
+use mathlib.Core.Bool.{Bool, true, false, cond, _&&_}
+use mathlib.Core.List.{List, [], _∷_}
+use lib.ListN.{length, take, set, replicate}
+use lib.Seq.{sets}
+use lib.Dec.{leb, ltb}
+use Rattle.protocols.specs.declared.shares.Shares.{Shares}
+use Rattle.protocols.specs.declared.place.Place.{Place}
+use Rattle.protocols.specs.declared.message.Message.{Message}
+use Rattle.protocols.specs.declared.message.Sent.{Sent}
+use Rattle.protocols.specs.declared.outcome.Outcome.{Outcome}
+use Rattle.protocols.specs.Shares.{shares}
+use Rattle.protocols.specs.Place.{Lists, silence}
+use Rattle.protocols.specs.Protocol.{Answer, done, spent}
+
+-- ---- messages
+
+-- one word more, at the count, where there is room
+abbrev pub pushed : Message → ℕ → Message
+pushed x w = cond (leb 28 (x .count)) x (record { words = set (x .words) (x .count) w; count = x .count + 1 })
+
+abbrev pub pushes : Message → List ℕ → Message
+pushes x [] = x
+pushes x (w ∷ l) = pushes (pushed x w) l
+
+-- the words of a list, one after the other
+abbrev pub message : List ℕ → Message
+message = pushes (record { words = replicate 28 0; count = 0 })
+
+-- words after words, for each party
+abbrev pub append : Sent → Lists → Sent
+append x l = record {
+  one = pushes (x .one) (l .one);
+  two = pushes (x .two) (l .two);
+  three = pushes (x .three) (l .three);
+  controller = pushes (x .controller) (l .controller);
+}
+
+abbrev pub sent : Lists → Sent
+sent l = record { one = message (l .one); two = message (l .two); three = message (l .three); controller = message (l .controller) }
+
+-- ---- an outcome
+
+-- the value of each answer, from a place
+abbrev pub outcome : Place → Answer Shares → Outcome
+outcome p (done s l q) = record { done = true; shares = s; place = q; sent = sent l }
+outcome p spent = record { done = false; shares = shares 0 0 0; place = p; sent = sent silence }
+
+-- ---- a delivery
+
+-- the words of a message
+abbrev pub wordsOf : Message → List ℕ
+wordsOf x = take (x .count) (x .words)
+
+-- whether the words were written, and what the list then holds
+pub record Delivery : Type 0 where
+  pub written : Bool
+  pub list : List ℕ
+
+abbrev pub delivery : Bool → List ℕ → Delivery
+delivery b l = record { written = b; list = l }
+
+-- 01: 'Received words go only into the unfilled part of a lent list'
+unfoldable pub delivered : Message → List ℕ → Delivery
+delivered x tail = cond (leb (x .count) 28 && leb (x .count) (length tail)) (delivery true (sets tail 0 (wordsOf x))) (delivery false tail)
