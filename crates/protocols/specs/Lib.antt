@@ -2,6 +2,7 @@
 pub mod Word
 pub mod Shares
 pub mod Place
+pub mod Draws
 pub mod Protocol
 pub mod Outcome
 pub mod Store

@@ -136,12 +136,13 @@ moved i p = record { handles = p .handles; inputs = p .inputs; drawn = withCount
 abbrev pub draw : Party → List ℕ → Place → Draw
 draw i l p = cond (ltb (count i (p .drawn)) (length l)) (Word (getD l (count i (p .drawn)) 0) (moved i p)) Spent
 
--- every tape has the words left at the place
+-- a test of every party
+abbrev pub every : (Party → Bool) → Bool
+every f = f Provider && (f One && (f Two && f Three))
+
+-- every tape has n words left at the place
 unfoldable pub enough : Drawn → Place → Tapes → Bool
-enough n p t =
-    leb (n .provider) (length (t .provider) - p .drawn .provider)
-    && (leb (n .one) (length (t .one) - p .drawn .one)
-    && (leb (n .two) (length (t .two) - p .drawn .two) && leb (n .three) (length (t .three) - p .drawn .three)))
+enough n p t = every (λ i. leb (count i n) (length (tape i t) - count i (p .drawn)))
 
 -- the next n words of each tape
 unfoldable pub block : Drawn → Place → Tapes → Tapes

@@ -8,7 +8,7 @@ use denote.Ref.{now}
 use lib.ListN.{length, length-set}
 use lib.Seq.{paste, paste-zero}
 use Rattle.protocols.specs.Outcome.{delivered}
-use Rattle.protocols.proofs.Messages.{paste-word, paste-sets}
+use Rattle.protocols.proofs.Laws.Messages.{paste-word, paste-sets}
 use Rattle.protocols.proofs.message.Message.deliver.Statement.{statement}
 use Rattle.protocols.proofs.message.Message.deliver.Tie as tie
 use Rattle.protocols.proofs.message.Message.deliver.Reads as reads
