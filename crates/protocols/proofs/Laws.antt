@@ -4,3 +4,4 @@ pub mod Bitwise
 pub mod Blocks
 pub mod Messages
 pub mod Draws
+pub mod Perform

@@ -7,9 +7,12 @@ use Rattle.protocols.specs.Place.{Tapes, Lists, counts, words, to-next, 
 use Rattle.protocols.specs.Protocol.{Protocol}
 use Rattle.protocols.specs.Reshare.{fresh}
 
--- round 3: w_i = u'_i v'_i + u'_i v'_(i-1) + u'_(i-1) v'_i
+-- round 3: w_i = u'_i v'_i + u'_i v'_(i-1) + u'_(i-1) v'_i, from own u, v and the previous miner's u′, v′
+abbrev pub productShare : ℕ → ℕ → ℕ → ℕ → ℕ → ℕ
+productShare m u v u′ v′ = add m (add m (mul m u v) (mul m u v′)) (mul m u′ v)
+
 abbrev pub product : ℕ → Shares → Shares → Shares
-product m u v = each (λ i. add m (add m (mul m (at i u) (at i v)) (mul m (at i u) (at (prev i) v))) (mul m (at (prev i) u) (at i v)))
+product m u v = each (λ i. productShare m (at i u) (at i v) (at (prev i) u) (at (prev i) v))
 
 -- round 2: u'_i = u_i + r_i - r_(i-1), and v'_i likewise with s
 abbrev pub masked-u : ℕ → Operands → Tapes → Shares

@@ -17,19 +17,19 @@ use Rattle.protocols.specs.Protocol.{Answer, done, spent}
 -- ---- messages
 
 -- one word more, at the count, where there is room
-abbrev pub pushed : Message → ℕ → Message
+unfoldable pub pushed : Message → ℕ → Message
 pushed x w = cond (leb 28 (x .count)) x (record { words = set (x .words) (x .count) w; count = x .count + 1 })
 
-abbrev pub pushes : Message → List ℕ → Message
+unfoldable pub pushes : Message → List ℕ → Message
 pushes x [] = x
 pushes x (w ∷ l) = pushes (pushed x w) l
 
 -- the words of a list, one after the other
-abbrev pub message : List ℕ → Message
+unfoldable pub message : List ℕ → Message
 message = pushes (record { words = replicate 28 0; count = 0 })
 
 -- words after words, for each party
-abbrev pub append : Sent → Lists → Sent
+unfoldable pub append : Sent → Lists → Sent
 append x l = record {
   one = pushes (x .one) (l .one);
   two = pushes (x .two) (l .two);
@@ -37,7 +37,7 @@ append x l = record {
   controller = pushes (x .controller) (l .controller);
 }
 
-abbrev pub sent : Lists → Sent
+unfoldable pub sent : Lists → Sent
 sent l = record { one = message (l .one); two = message (l .two); three = message (l .three); controller = message (l .controller) }
 
 -- ---- an outcome

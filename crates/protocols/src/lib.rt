@@ -3,7 +3,13 @@
 pub mod bits;
 pub mod draws;
 pub mod equal;
+pub mod local;
 pub mod message;
+pub mod multiply;
+pub mod open;
 pub mod outcome;
 pub mod place;
+pub mod reshare;
+pub mod ring;
 pub mod shares;
+pub mod store;

@@ -160,6 +160,18 @@ abbrev pub after-each : {A : Type 0} → Each → (Shares → Place → A) → A
 after-each (each.Words r q) k z = k r q
 after-each each.Spent k z = z
 
+abbrev pub after-pairs : {A : Type 0} → Pairs → (Shares → Shares → Place → A) → A → A
+after-pairs (pairs.Words r s q) k z = k r s q
+after-pairs pairs.Spent k z = z
+
+abbrev pub after-triple : {A : Type 0} → Triple → (ℕ → ℕ → ℕ → Place → A) → A → A
+after-triple (triple.Words a b c q) k z = k a b c q
+after-triple triple.Spent k z = z
+
+abbrev pub after-double : {A : Type 0} → Double → (ℕ → ℕ → Place → A) → A → A
+after-double (double.Words a b q) k z = k a b q
+after-double double.Spent k z = z
+
 module _ (p : Place) (t : Tapes) where
   abbrev pub in-turn : Each
   in-turn =

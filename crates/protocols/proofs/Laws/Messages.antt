@@ -10,15 +10,17 @@ use lib.Seq.{sets, sets-eq, paste, paste-suc, length-take-le}
 use Rattle.protocols.specs.declared.message.Message.{Message}
 use Rattle.protocols.specs.declared.message.Sent.{Sent}
 use Rattle.protocols.specs.Place.{Lists, _followed-by_}
-use Rattle.protocols.specs.Outcome.{pushed, pushes, append, sent}
+use Rattle.protocols.specs.Outcome.{message, pushed, pushes, append, sent}
 
 -- ---- words after words
 
 pub pushes-append : (x : Message) (l r : List ℕ) → pushes (pushes x l) r ≡ pushes x (l ++ r)
+unfolding pushes
 pushes-append x [] r = refl
 pushes-append x (w ∷ l) r = pushes-append (pushed x w) l r
 
 pub append-sent : (l r : Lists) → append (sent l) r ≡ sent (l followed-by r)
+unfolding append sent message
 append-sent l r = cc (pushes-append _ (l .one) (r .one), pushes-append _ (l .two) (r .two), pushes-append _ (l .three) (r .three), pushes-append _ (l .controller) (r .controller))
 
 -- ---- a copy, word by word

@@ -1,7 +1,8 @@
 -- Laws of sums, differences and products modulo m, for any m above 0.
 use mathlib.Core.Path.{_≡_, refl, sym, ap, ap₂, _∙_}
-use Prim.Native.Nat.{ℕ, zero, suc, _+_, _-_, _*_, _/_, _%_, _≤_, _<_}
-use native.Mathlib.Nat.{mod-lt, mod-eq-of-lt, div-add-mod', add-mul-mod-self-right, mod-mod}
+use Prim.Native.Nat.{ℕ, _+_, _-_, _*_, _/_, _%_, _^_, _<_}
+use native.Mathlib.Nat.{mod-lt, mod-eq-of-lt, div-add-mod', add-mul-mod-self-right, lt-of-le-of-lt, le-of-lt, mul-le-mul-left, mul-lt-mul-of-pos-right}
+use lib.Pow.{pow-add, pow-pos}
 use native.Mathlib.Omega.{arith}
 use Rattle.protocols.specs.Word.{add, sub, mul}
 
@@ -107,3 +108,14 @@ module _ (m : ℕ) (pos : 0 < m) where
       let (k, l, f) = sub-r d s in
       let (q, e) = add-r s (sub m d s) in
       same-mod (add m s (sub m d s)) d (q + k) l (add-lt _ _) h (omega (arith, e, f))
+
+  -- the difference is the one word that b added to makes a
+  pub sub-unique : (r a b : ℕ) → r < m → a < m → (r + b) % m ≡ a → r ≡ sub m a b
+  sub-unique r a b hr ha e =
+      let (q, k, f) = sub-r a b in
+      same-mod r (sub m a b) k ((r + b) / m + q) hr (sub-lt a b) (omega (arith, e, f, div-add-mod' (r + b) m))
+
+-- a product of two words fits twice the width
+pub product-lt : (w : ℕ) {a b : ℕ} → a < 2 ^ w → b < 2 ^ w → a * b < 2 ^ (w + w)
+product-lt w {a} {b} ha hb =
+    rw (pow-add 2 w w) (lt-of-le-of-lt (mul-le-mul-left a (le-of-lt hb)) (mul-lt-mul-of-pos-right ha (pow-pos w)))

@@ -1,3 +1,4 @@
+use Rattle.protocols.specs.Outcome.{pushed}
 use borrow.Author.Tests.{le-leb, lt-leb}
 use borrow.Author.Needs.{needs}
 use Rattle.protocols.proofs.message.Message.push.Statement.{statement}
@@ -7,6 +8,7 @@ use Rattle.protocols.proofs.message.Message.push.Lts as lts
 
 -- src/message.rt:39:13
 returns : tie.Need-returns
+unfolding pushed
 returns c = rw (le-leb _ _ ((c .if1) .taken))
 
 -- src/message.rt:41:9
@@ -23,6 +25,7 @@ add-self c = search needs
 
 -- src/message.rt:34:5
 returns-2 : tie.Need-returns-2
+unfolding pushed
 returns-2 c = rw (lt-leb _ _ ((c .if1) .left))
 
 pub push-spec : {M : Type 1} → statement M

@@ -1,3 +1,4 @@
+use Rattle.protocols.specs.Outcome.{sent}
 use borrow.Author.Needs.{needs}
 use Rattle.protocols.proofs.message.Sent.new.Statement.{statement}
 use Rattle.protocols.proofs.message.Sent.new.Tie as tie
@@ -23,6 +24,7 @@ new-requires-4 c κs = search needs
 
 -- src/message.rt:69:5
 returns : tie.Need-returns
+unfolding sent
 returns c = rw ((c .before .before .before .new) .ensures, (c .before .before .new2) .ensures, (c .before .new3) .ensures, (c .new4) .ensures)
 
 pub new-spec : {M : Type 1} → statement M

@@ -1,3 +1,4 @@
+use Rattle.protocols.specs.Outcome.{append, pushes}
 use borrow.Author.Needs.{needs}
 use Rattle.protocols.proofs.message.Sent.to_next.Statement.{statement}
 use Rattle.protocols.proofs.message.Sent.to_next.Tie as tie
@@ -19,6 +20,7 @@ push-requires-3 c κs = search needs
 
 -- src/message.rt:81:5
 returns : tie.Need-returns
+unfolding append pushes
 returns c = rw ((c .before .before .push) .ensures, (c .before .push2) .ensures, (c .push3) .ensures)
 
 pub to-next-spec : {M : Type 1} → statement M

@@ -1,3 +1,4 @@
+use Rattle.protocols.specs.Outcome.{append, pushes}
 use borrow.Author.Needs.{needs}
 use Rattle.protocols.proofs.message.Sent.to_two_three.Statement.{statement}
 use Rattle.protocols.proofs.message.Sent.to_two_three.Tie as tie
@@ -15,6 +16,7 @@ push-requires-2 c κs = search needs
 
 -- src/message.rt:97:5
 returns : tie.Need-returns
+unfolding append pushes
 returns c = rw ((c .before .push) .ensures, (c .push2) .ensures)
 
 pub to-two-three-spec : {M : Type 1} → statement M
