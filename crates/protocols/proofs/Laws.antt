@@ -5,3 +5,13 @@ pub mod Blocks
 pub mod Messages
 pub mod Draws
 pub mod Perform
+pub mod Source
+pub mod Shared
+pub mod Carry
+pub mod Fold
+pub mod WordForm
+pub mod RingCombine
+pub mod Counts
+pub mod BitsCombine
+pub mod Tables
+pub mod Blind

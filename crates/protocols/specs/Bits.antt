@@ -27,15 +27,13 @@ abbrev pub v₃ : ℕ → Shares → Tapes → ℕ
 v₃ m u t = add m (u .three) (r₃ m u t)
 
 -- lines 8 to 11: 'v is the sum. Shares of p: 0, v xor R2, R3. Shares of s: 0, v and R2, v and R3'
+abbrev pub start : ℕ → ℕ → ℕ → ℕ → ℕ → Dealt
+start m v₂ v₃ R₂ R₃ =
+    let v = add m v₂ v₃ in
+    record { p = shares 0 (bitXor v R₂) R₃; s = shares 0 (bitAnd v R₂) (bitAnd v R₃); v2 = v₂; v3 = v₃ }
+
 abbrev pub dealt : ℕ → Shares → Tapes → Dealt
-dealt m u t =
-    let v = add m (v₂ m u t) (v₃ m u t) in
-    record {
-      p = shares 0 (bitXor v (word t one 2)) (R₃ t);
-      s = shares 0 (bitAnd v (word t one 2)) (bitAnd v (R₃ t));
-      v2 = v₂ m u t;
-      v3 = v₃ m u t;
-    }
+dealt m u t = start m (v₂ m u t) (v₃ m u t) (word t one 2) (R₃ t)
 
 -- 'Miners 2 and 3 receive r_i, then R_i'
 unfoldable pub deal : ℕ → Protocol Shares Dealt

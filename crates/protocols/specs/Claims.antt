@@ -22,6 +22,7 @@ use Rattle.protocols.specs.Contents.{Contents}
 use Rattle.protocols.specs.Counts.{Counted, received}
 use Rattle.protocols.specs.Blind.{Observer, SameShares, SameOperands, SameOpened, Blind}
 use Rattle.protocols.specs.WordForm.{wordS, wordP, wordFold}
+use Rattle.protocols.specs.Worked.{Worked}
 
 abbrev pub OperandsAreWords : ℕ → Operands → Type 0
 OperandsAreWords m x = AreWords m (x .u) × AreWords m (x .v)
@@ -119,3 +120,4 @@ pub record Claims : Type 0 where
   pub blind : (n : ℕ) (o : Observer) → BlindProtocols n o
   pub word-forms : (n k : ℕ) → k < n → WordForms n k
   pub sources : (k j : ℕ) → bitAt j k ≡ 1 → SourceIs k j
+  pub worked : Worked

@@ -6,6 +6,7 @@ use Rattle.protocols.specs.Word.{width, modulus, add, sub, bitAt, ofBits
 use Rattle.protocols.specs.Shares.{one, prev, at, each, shares, Operands}
 use Rattle.protocols.specs.Place.{Tapes, counts, word, words, to-next, to-two-three, _followed-by_}
 use Rattle.protocols.specs.Protocol.{Protocol, locally, _then_}
+use Rattle.protocols.specs.Local.{difference}
 use Rattle.protocols.specs.Masked.{masked, andShare}
 use Rattle.protocols.specs.Bit.{bit}
 
@@ -13,14 +14,14 @@ use Rattle.protocols.specs.Bit.{bit}
 
 -- 'miner 1 draws r2; r3 = (u1 - v1) - r2'
 abbrev pub r₃ : ℕ → Operands → Tapes → ℕ
-r₃ m x t = sub m (sub m (x .u .one) (x .v .one)) (word t one 0)
+r₃ m x t = sub m (difference m x .one) (word t one 0)
 
--- 'e_i = u_i - v_i + r_i. Shares of p: all ones, e2, -e3'
+-- 'e_i = u_i - v_i + r_i. Shares of p: all ones, e2, -e3', from the shares of u - v
+abbrev pub start : ℕ → Shares → ℕ → ℕ → Shares
+start m d r₂ r₃ = shares (m - 1) (add m (d .two) r₂) (sub m 0 (add m (d .three) r₃))
+
 abbrev pub compared : ℕ → Operands → Tapes → Shares
-compared m x t =
-    shares (m - 1)
-    (add m (sub m (x .u .two) (x .v .two)) (word t one 0))
-    (sub m 0 (add m (sub m (x .u .three) (x .v .three)) (r₃ m x t)))
+compared m x t = start m (difference m x) (word t one 0) (r₃ m x t)
 
 -- 'miners 2 and 3 receive theirs'
 unfoldable pub compare : ℕ → Protocol Operands Shares

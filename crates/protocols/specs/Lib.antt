@@ -4,7 +4,6 @@ pub mod Shares
 pub mod Place
 pub mod Draws
 pub mod Protocol
-pub mod Outcome
 pub mod Store
 pub mod Local
 pub mod Reshare
@@ -15,8 +14,10 @@ pub mod Bits
 pub mod Equal
 pub mod Open
 pub mod Below
+pub mod Outcome
 pub mod Contents
 pub mod Counts
 pub mod Blind
 pub mod WordForm
+pub mod Worked
 pub mod Claims

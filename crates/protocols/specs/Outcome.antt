@@ -11,7 +11,9 @@ use Rattle.protocols.specs.declared.message.Message.{Message}
 use Rattle.protocols.specs.declared.message.Sent.{Sent}
 use Rattle.protocols.specs.declared.outcome.Outcome.{Outcome}
 use Rattle.protocols.specs.Shares.{shares}
-use Rattle.protocols.specs.Place.{Lists, silence}
+use Rattle.protocols.specs.declared.bits.Dealing.{Dealing}
+use Rattle.protocols.specs.Bits.{deal}
+use Rattle.protocols.specs.Place.{Lists, tapes, silence}
 use Rattle.protocols.specs.Protocol.{Answer, done, spent}
 
 -- ---- messages
@@ -46,6 +48,17 @@ sent l = record { one = message (l .one); two = message (l .two); three = messag
 abbrev pub outcome : Place → Answer Shares → Outcome
 outcome p (done s l q) = record { done = true; shares = s; place = q; sent = sent l }
 outcome p spent = record { done = false; shares = shares 0 0 0; place = p; sent = sent silence }
+
+-- the same as the last part of a protocol that began at the place p and has sent x
+abbrev pub continued : Place → Sent → Answer Shares → Outcome
+continued p x (done s l q) = record { done = true; shares = s; place = q; sent = append x l }
+continued p x spent = record { done = false; shares = shares 0 0 0; place = p; sent = sent silence }
+
+-- the dealing of Bits, with the words sent in it, from the words that miner 1 drew
+abbrev pub dealing : ℕ → Shares → ℕ → ℕ → ℕ → Dealing
+dealing n u r a b =
+    let t = tapes [] (r ∷ a ∷ b ∷ []) [] [] in
+    record { dealt = deal n .result u t; sent = sent (deal n .received u t) }
 
 -- ---- a delivery
 

@@ -1,4 +1,21 @@
 // Bits.
+ghost use mathlib.Core.Path.{_≡_};
+ghost use mathlib.Core.List.{[]};
+ghost use Prim.Native.Nat.{_<_};
+ghost use Rattle.protocols.specs.Word.{modulus, width};
+ghost use Rattle.protocols.specs.Place.{tapes};
+ghost use Rattle.protocols.specs.Protocol.{perform};
+ghost use Rattle.protocols.specs.Outcome.{outcome, dealing};
+ghost use Rattle.protocols.specs.WordForm as word;
+ghost use Rattle.protocols.specs.Bits as spec;
+use super::draws;
+use super::draws::Pairs;
+use super::draws::Triple;
+use super::masked;
+use super::message::Sent;
+use super::outcome::Outcome;
+use super::place::Place;
+use super::ring;
 use super::shares::Shares;
 
 // What the dealing leaves: shares of p and s, and the words that miners 2 and 3 exchange.
@@ -9,6 +26,12 @@ pub struct Dealt {
     pub v3: u32,
 }
 
+// The dealing, with the words that miners 2 and 3 receive in it.
+pub struct Dealing {
+    pub dealt: Dealt,
+    pub sent: Sent,
+}
+
 // What the miners hold before a round: p and s, its masks q and t, and the shares that the result takes up again.
 pub struct Held {
     pub p: Shares,
@@ -16,4 +39,156 @@ pub struct Held {
     pub q: Shares,
     pub t: Shares,
     pub base: Shares,
+}
+
+// Round k: the positions that others take from, and those whose bit k is clear.
+const SOURCES: [u32; 5] = [
+    0x5555_5555,
+    0x2222_2222,
+    0x0808_0808,
+    0x0080_0080,
+    0x0000_8000,
+];
+
+const CLEAR: [u32; 5] = [
+    0x5555_5555,
+    0x3333_3333,
+    0x0f0f_0f0f,
+    0x00ff_00ff,
+    0x0000_ffff,
+];
+
+// Each source's bit at every position that takes from it in round k.
+fn spread(x: u32, k: u32) -> u32
+    requires { ⌜ k < 5 ⌝ }
+    ensures { λ r. ⌜ r ≡ word.spread 5 k x ⌝ }
+{
+    let t = x & SOURCES[k as usize];
+    ((t << (1u32 << k)) - t) << 1
+}
+
+// A miner's s after round k, from its own masked shares p, s and the previous miner's x, y.
+fn round_s(k: u32, p: u32, x: u32, s: u32, y: u32) -> u32
+    requires { ⌜ k < 5 ⌝ }
+    ensures { λ r. ⌜ r ≡ spec.roundS (width 5) k p x s y ⌝ }
+{
+    s ^ masked::and_share(p, x, spread(s, k), spread(y, k))
+}
+
+// A miner's p after round k.
+fn round_p(k: u32, p: u32, x: u32) -> u32
+    requires { ⌜ k < 5 ⌝ }
+    ensures { λ r. ⌜ r ≡ spec.roundP (width 5) k p x ⌝ }
+{
+    (p & CLEAR[k as usize]) ^ masked::and_share(p, x, spread(p, k), spread(x, k))
+}
+
+// Round k on every miner's masked shares, with the masks of the next round.
+fn carried(k: u32, p: Shares, s: Shares, q: Shares, t: Shares, base: Shares) -> Held
+    requires { ⌜ k < 5 ⌝ }
+    ensures { λ r. ⌜ r ≡ spec.carried (width 5) k p s q t base ⌝ }
+{
+    Held {
+        p: Shares {
+            one: round_p(k, p.one, p.three),
+            two: round_p(k, p.two, p.one),
+            three: round_p(k, p.three, p.two),
+        },
+        s: Shares {
+            one: round_s(k, p.one, p.three, s.one, s.three),
+            two: round_s(k, p.two, p.one, s.two, s.one),
+            three: round_s(k, p.three, p.two, s.three, s.two),
+        },
+        q,
+        t,
+        base,
+    }
+}
+
+// Shares of p and s from what miner 1 dealt.
+fn start(v2: u32, v3: u32, c2: u32, c3: u32) -> Dealt
+    ensures { λ r. ⌜ r ≡ spec.start (modulus 5) v2 v3 c2 c3 ⌝ }
+{
+    let v = ring::add(v2, v3);
+    Dealt {
+        p: Shares {
+            one: 0,
+            two: v ^ c2,
+            three: c3,
+        },
+        s: Shares {
+            one: 0,
+            two: v & c2,
+            three: v & c3,
+        },
+        v2,
+        v3,
+    }
+}
+
+// The dealing, from the words r, r2 and R2 that miner 1 drew.
+fn deal(u: Shares, r: u32, a: u32, b: u32) -> Dealing
+    ensures { λ d. ⌜ d ≡ dealing 5 u r a b ⌝ }
+{
+    let r3 = ring::sub(ring::sub(u.one, r), a);
+    let c3 = r ^ b;
+    Dealing {
+        dealt: start(ring::add(u.two, a), ring::add(u.three, r3), b, c3),
+        sent: Sent::new().to_two_three(a, r3).to_two_three(b, c3),
+    }
+}
+
+// The result: s shifted up by one, with p as it was before the rounds.
+fn joined(h: Held) -> Shares
+    ensures { λ r. ⌜ r ≡ spec.joined (width 5) h ⌝ }
+{
+    Shares {
+        one: (h.s.one << 1) ^ h.base.one,
+        two: (h.s.two << 1) ^ h.base.two,
+        three: (h.s.three << 1) ^ h.base.three,
+    }
+}
+
+// The bits of a ring value, as a bit word.
+pub fn bits(u: Shares, place: Place, tape1: &[u32], tape2: &[u32], tape3: &[u32]) -> Outcome
+    ensures { λ r. ⌜ r ≡ outcome place (perform (spec.bits 5) u place (tapes [] (now (tape1 .entry)) (now (tape2 .entry)) (now (tape3 .entry)))) ⌝ }
+{
+    let Triple::Words(r, r2, c2, dealt_at) = draws::draw_triple(place, tape1) else {
+        return Outcome::spent(place);
+    };
+    let Pairs::Words(q, t, begun_at) = draws::draw_pairs(dealt_at, tape1, tape2, tape3) else {
+        return Outcome::spent(place);
+    };
+    let dealing = deal(u, r, r2, c2);
+    let dealt = dealing.dealt;
+    let p = dealt.p;
+    let s = dealt.s;
+    let mut sent = dealing.sent;
+    sent = sent.to_next(q).to_next(t).to_two_three(dealt.v3, dealt.v2);
+    let mut held = Held {
+        p,
+        s,
+        q,
+        t,
+        base: p,
+    };
+    let mut at = begun_at;
+    let mut k: u32 = 0;
+    while k < 5 {
+        let Pairs::Words(q, t, next) = draws::draw_pairs(at, tape1, tape2, tape3) else {
+            return Outcome::spent(place);
+        };
+        let p = masked::masked(held.p, held.q);
+        let s = masked::masked(held.s, held.t);
+        sent = sent.to_next(p).to_next(s).to_next(q).to_next(t);
+        held = carried(k, p, s, q, t, held.base);
+        at = next;
+        k += 1;
+    }
+    Outcome {
+        done: true,
+        shares: joined(held),
+        place: at,
+        sent,
+    }
 }

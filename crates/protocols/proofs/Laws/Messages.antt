@@ -9,8 +9,11 @@ use lib.ListN.{length, take, drop, set, getD}
 use lib.Seq.{sets, sets-eq, paste, paste-suc, length-take-le}
 use Rattle.protocols.specs.declared.message.Message.{Message}
 use Rattle.protocols.specs.declared.message.Sent.{Sent}
-use Rattle.protocols.specs.Place.{Lists, _followed-by_}
-use Rattle.protocols.specs.Outcome.{message, pushed, pushes, append, sent}
+use Rattle.protocols.specs.Place.{Lists, silence, _followed-by_}
+use Rattle.protocols.specs.declared.shares.Shares.{Shares}
+use Rattle.protocols.specs.declared.place.Place.{Place}
+use Rattle.protocols.specs.Protocol.{Answer, done, spent}
+use Rattle.protocols.specs.Outcome.{message, pushed, pushes, append, sent, outcome, continued}
 
 -- ---- words after words
 
@@ -22,6 +25,16 @@ pushes-append x (w ∷ l) r = pushes-append (pushed x w) l r
 pub append-sent : (l r : Lists) → append (sent l) r ≡ sent (l followed-by r)
 unfolding append sent message
 append-sent l r = cc (pushes-append _ (l .one) (r .one), pushes-append _ (l .two) (r .two), pushes-append _ (l .three) (r .three), pushes-append _ (l .controller) (r .controller))
+
+pub append-append : (x : Sent) (l r : Lists) → append (append x l) r ≡ append x (l followed-by r)
+unfolding append
+append-append x l r =
+    cc (pushes-append (x .one) (l .one) (r .one), pushes-append (x .two) (l .two) (r .two), pushes-append (x .three) (l .three) (r .three), pushes-append (x .controller) (l .controller) (r .controller))
+
+-- a protocol that has sent nothing before
+pub continued-nothing : (p : Place) (a : Answer Shares) → continued p (sent silence) a ≡ outcome p a
+continued-nothing p (done s l q) = rw append-sent
+continued-nothing p spent = refl
 
 -- ---- a copy, word by word
 
