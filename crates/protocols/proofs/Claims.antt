@@ -12,8 +12,10 @@ use Rattle.protocols.proofs.Laws.Source.{source-is}
 use Rattle.protocols.proofs.Laws.WordForm.{word-forms}
 use Rattle.protocols.proofs.Laws.RingCombine.{ring-combines}
 use Rattle.protocols.proofs.Laws.BitsCombine.{bits-combine}
-use Rattle.protocols.proofs.Laws.Counts.{table, numbers}
+use Rattle.protocols.proofs.Laws.Counts.{table, table-at-32}
 use Rattle.protocols.proofs.Laws.Blind.{blind-protocols}
+use Rattle.protocols.proofs.Laws.Perform.{on-tapes}
+use Rattle.protocols.proofs.Laws.Messages.{message-holds}
 
 -- by computation
 worked : Worked
@@ -24,9 +26,11 @@ pub claims : Claims
 claims = record {
   combine = (ring-combines, bits-combine);
   table = table;
-  numbers = numbers;
+  table-at-32 = table-at-32;
   blind = blind-protocols;
   word-forms = word-forms;
   sources = source-is;
+  on-tapes = on-tapes;
+  messages = message-holds;
   worked = worked;
 }

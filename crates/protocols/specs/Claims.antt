@@ -3,12 +3,19 @@
 use Prim.Native.Nat.{ℕ, suc, _+_, _-_, _*_, _/_, _^_, _≤_, _<_}
 use mathlib.Core.Path.{_≡_}
 use mathlib.Core.Bool.{cond}
+use mathlib.Core.List.{List}
 use lib.Dec.{eqb}
+use lib.ListN.{length}
+use Rattle.protocols.specs.declared.place.Party.{Party}
+use Rattle.protocols.specs.declared.place.Drawn.{Drawn}
+use Rattle.protocols.specs.declared.place.Received.{Received}
+use Rattle.protocols.specs.declared.place.Place.{Place}
 use Rattle.protocols.specs.declared.shares.Shares.{Shares}
 use Rattle.protocols.specs.Word.{width, modulus, add, sub, mul, bitAt}
 use Rattle.protocols.specs.Shares.{AreWords, Operands, sumOf, xorOf}
-use Rattle.protocols.specs.Place.{Tapes, counts}
-use Rattle.protocols.specs.Protocol.{locally}
+use Rattle.protocols.specs.Place.{Tapes, tape, count, counts, inOrder, advance, block}
+use Rattle.protocols.specs.Protocol.{Protocol, locally, done, spent, perform}
+use Rattle.protocols.specs.Outcome.{message, wordsOf}
 use Rattle.protocols.specs.Store.{store}
 use Rattle.protocols.specs.Local.{sum, difference, multiple, shifted}
 use Rattle.protocols.specs.Reshare.{reshare}
@@ -39,15 +46,17 @@ pub record RingCombines (m : ℕ) : Type 0 where
   pub reshare-combines : (u : Shares) (b : Tapes) → sumOf m (reshare m .result u b) ≡ sumOf m u
   pub multiply-combines : (x : Operands) (b : Tapes) → sumOf m (multiply m .result x b) ≡ mul m (sumOf m (x .u)) (sumOf m (x .v))
   pub opening-combines : (u : Shares) (b : Tapes) → sumOf m (opening m .result u b) ≡ sumOf m u
+  -- those three shares are what the controller receives
+  pub opening-shown : (u : Shares) (b : Tapes) → opening m .received u b .controller ≡ inOrder (opening m .result u b)
 
 -- over words of 2 ^ n bits
 pub record BitsCombine (n : ℕ) : Type 0 where
   pub bit-combines : (j : ℕ) (u : Shares) (b : Tapes) → sumOf (modulus n) (bit (modulus n) j .result u b) ≡ bitAt (xorOf u) j
-  pub bits-combines : (u : Shares) → AreWords (modulus n) u → (b : Tapes) → Contents (modulus n) (bits n .draws) b
+  pub bits-combines : (u : Shares) (b : Tapes) → Contents (modulus n) (bits n .draws) b
       → xorOf (bits n .result u b) ≡ sumOf (modulus n) u
-  pub equal-combines : (x : Operands) → OperandsAreWords (modulus n) x → (b : Tapes) → Contents (modulus n) (equal n .draws) b
+  pub equal-combines : (x : Operands) (b : Tapes)
       → sumOf (modulus n) (equal n .result x b) ≡ cond (eqb (sumOf (modulus n) (x .u)) (sumOf (modulus n) (x .v))) 1 0
-  pub below-combines : (x : Operands) → OperandsAreWords (modulus n) x → (b : Tapes) → Contents (modulus n) (below n .draws) b
+  pub below-combines : (x : Operands) (b : Tapes) → Contents (modulus n) (below n .draws) b
       → sumOf (modulus n) (below n .result x b) ≡ bitAt (sub (modulus n) (sumOf (modulus n) (x .u)) (sumOf (modulus n) (x .v))) (width n - 1)
 
 abbrev pub Combines : Type 0
@@ -55,31 +64,29 @@ Combines = ((m : ℕ) → 0 < m → RingCombines m) × ((n : ℕ) → BitsCombin
 
 -- ---- 2. Each protocol draws and delivers exactly the counts of document 01's table, and every word that it makes is a word.
 
-pub record Table (n : ℕ) : Type 0 where
-  pub store-counts : Counted (modulus n) (store (modulus n)) (λ v. v < modulus n) (AreWords (modulus n)) (counts 2 0 0 0) (received 1 1 1 0)
-  pub sum-counts : Counted (modulus n) (locally (sum (modulus n))) (OperandsAreWords (modulus n)) (AreWords (modulus n)) (counts 0 0 0 0) (received 0 0 0 0)
-  pub difference-counts : Counted (modulus n) (locally (difference (modulus n))) (OperandsAreWords (modulus n)) (AreWords (modulus n)) (counts 0 0 0 0) (received 0 0 0 0)
-  pub shifted-counts : (c : ℕ) → Counted (modulus n) (locally (shifted (modulus n) c)) (AreWords (modulus n)) (AreWords (modulus n)) (counts 0 0 0 0) (received 0 0 0 0)
-  pub multiple-counts : (c : ℕ) → Counted (modulus n) (locally (multiple (modulus n) c)) (AreWords (modulus n)) (AreWords (modulus n)) (counts 0 0 0 0) (received 0 0 0 0)
-  pub multiply-counts : Counted (modulus n) (multiply (modulus n)) (OperandsAreWords (modulus n)) (AreWords (modulus n)) (counts 0 2 2 2) (received 4 4 4 0)
-  pub reshare-counts : Counted (modulus n) (reshare (modulus n)) (AreWords (modulus n)) (AreWords (modulus n)) (counts 0 1 1 1) (received 1 1 1 0)
-  pub bits-counts : Counted (modulus n) (bits n) (AreWords (modulus n)) (AreWords (modulus n))
-      (counts 0 (5 + 2 * n) (2 + 2 * n) (2 + 2 * n)) (received (2 + 4 * n) (5 + 4 * n) (5 + 4 * n) 0)
-  pub bit-counts : (j : ℕ) → Counted (modulus n) (bit (modulus n) j) (AreWords (modulus n)) (AreWords (modulus n)) (counts 0 3 0 0) (received 0 3 3 0)
-  pub equal-counts : Counted (modulus n) (equal n) (OperandsAreWords (modulus n)) (AreWords (modulus n))
-      (counts 0 (5 + n) (1 + n) (1 + n)) (received (1 + 2 * n) (5 + 2 * n) (5 + 2 * n) 0)
-  pub opening-counts : Counted (modulus n) (opening (modulus n)) (AreWords (modulus n)) (AreWords (modulus n)) (counts 0 1 1 1) (received 1 1 1 3)
-  pub below-counts : Counted (modulus n) (below n) (OperandsAreWords (modulus n)) (AreWords (modulus n))
-      (counts 0 (8 + 2 * n) (2 + 2 * n) (2 + 2 * n)) (received (2 + 4 * n) (8 + 4 * n) (8 + 4 * n) 0)
+-- a row: the words received by miners 1, 2, 3 and controller, and the words drawn by provider and miners 1, 2, 3
+abbrev pub Row : ℕ → {S : Type 0} → Protocol S Shares → (S → Type 0) → Received → Drawn → Type 0
+Row n f Good k d = Counted (modulus n) f Good (AreWords (modulus n)) d k
 
--- at 32 bits, the numbers of the table
-pub record TableNumbers : Type 0 where
-  pub bits-drawn : bits 5 .draws ≡ counts 0 15 12 12
-  pub equal-drawn : equal 5 .draws ≡ counts 0 10 6 6
-  pub below-drawn : below 5 .draws ≡ counts 0 18 12 12
-  pub bits-received : received (2 + 4 * 5) (5 + 4 * 5) (5 + 4 * 5) 0 ≡ received 22 25 25 0
-  pub equal-received : received (1 + 2 * 5) (5 + 2 * 5) (5 + 2 * 5) 0 ≡ received 11 15 15 0
-  pub below-received : received (2 + 4 * 5) (8 + 4 * 5) (8 + 4 * 5) 0 ≡ received 22 28 28 0
+pub record Table (n : ℕ) : Type 0 where
+  pub store-row : Row n (store (modulus n)) (λ v. v < modulus n) (received 1 1 1 0) (counts 2 0 0 0)
+  pub sum-row : Row n (locally (sum (modulus n))) (OperandsAreWords (modulus n)) (received 0 0 0 0) (counts 0 0 0 0)
+  pub difference-row : Row n (locally (difference (modulus n))) (OperandsAreWords (modulus n)) (received 0 0 0 0) (counts 0 0 0 0)
+  pub shifted-row : (c : ℕ) → Row n (locally (shifted (modulus n) c)) (AreWords (modulus n)) (received 0 0 0 0) (counts 0 0 0 0)
+  pub multiple-row : (c : ℕ) → Row n (locally (multiple (modulus n) c)) (AreWords (modulus n)) (received 0 0 0 0) (counts 0 0 0 0)
+  pub multiply-row : Row n (multiply (modulus n)) (OperandsAreWords (modulus n)) (received 4 4 4 0) (counts 0 2 2 2)
+  pub reshare-row : Row n (reshare (modulus n)) (AreWords (modulus n)) (received 1 1 1 0) (counts 0 1 1 1)
+  pub bits-row : Row n (bits n) (AreWords (modulus n)) (received (2 + 4 * n) (5 + 4 * n) (5 + 4 * n) 0) (counts 0 (5 + 2 * n) (2 + 2 * n) (2 + 2 * n))
+  pub bit-row : (j : ℕ) → Row n (bit (modulus n) j) (AreWords (modulus n)) (received 0 3 3 0) (counts 0 3 0 0)
+  pub equal-row : Row n (equal n) (OperandsAreWords (modulus n)) (received (1 + 2 * n) (5 + 2 * n) (5 + 2 * n) 0) (counts 0 (5 + n) (1 + n) (1 + n))
+  pub opening-row : Row n (opening (modulus n)) (AreWords (modulus n)) (received 1 1 1 3) (counts 0 1 1 1)
+  pub below-row : Row n (below n) (OperandsAreWords (modulus n)) (received (2 + 4 * n) (8 + 4 * n) (8 + 4 * n) 0) (counts 0 (8 + 2 * n) (2 + 2 * n) (2 + 2 * n))
+
+-- the rows that depend on the width, at 32 bits
+pub record TableAt32 : Type 0 where
+  pub bits-row : Row 5 (bits 5) (AreWords (modulus 5)) (received 22 25 25 0) (counts 0 15 12 12)
+  pub equal-row : Row 5 (equal 5) (OperandsAreWords (modulus 5)) (received 11 15 15 0) (counts 0 10 6 6)
+  pub below-row : Row 5 (below 5) (OperandsAreWords (modulus 5)) (received 22 28 28 0) (counts 0 18 12 12)
 
 -- ---- 3. Each protocol is blind for a miner, for the controller, and for a miner that is controller too.
 
@@ -111,13 +118,32 @@ pub record SourceIs (k j : ℕ) : Type 0 where
   pub agrees : source k j / 2 ^ suc k ≡ j / 2 ^ suc k
   pub highest : (i : ℕ) → i < j → bitAt i k ≡ 0 → i / 2 ^ suc k ≡ j / 2 ^ suc k → i ≤ source k j
 
+-- ---- 5. On lent tapes a protocol is spent exactly when a tape has too few words left, and tapes that it does not draw from do not count.
+
+-- a party has fewer words left at the place than are to be drawn
+abbrev pub Lacks : Drawn → Place → Tapes → Party → Type 0
+Lacks n p t i = length (tape i t) - count i (p .drawn) < count i n
+
+pub record OnTapes {S T : Type 0} (f : Protocol S T) (s : S) (p : Place) (t : Tapes) : Type 0 where
+  pub spent-if : (i : Party) → Lacks (f .draws) p t i → perform f s p t ≡ spent
+  pub done-if : ((i : Party) → ¬ Lacks (f .draws) p t i)
+      → let b = block (f .draws) p t in perform f s p t ≡ done (f .result s b) (f .received s b) (advance p (f .draws))
+  pub other-tapes : (t′ : Tapes) → ((i : Party) → 0 < count i (f .draws) → tape i t ≡ tape i t′) → perform f s p t ≡ perform f s p t′
+
+-- a message holds the words of its list, all of them, where these are at most 28, as in every row at 32 bits
+pub record MessageHolds (l : List ℕ) : Type 0 where
+  pub counted : message l .count ≡ length l
+  pub words : wordsOf (message l) ≡ l
+
 -- ---- all of it
 
-pub record Claims : Type 0 where
+pub record Claims : Type 1 where
   pub combine : Combines
   pub table : (n : ℕ) → Table n
-  pub numbers : TableNumbers
+  pub table-at-32 : TableAt32
   pub blind : (n : ℕ) (o : Observer) → BlindProtocols n o
   pub word-forms : (n k : ℕ) → k < n → WordForms n k
   pub sources : (k j : ℕ) → bitAt j k ≡ 1 → SourceIs k j
+  pub on-tapes : {S T : Type 0} (f : Protocol S T) (s : S) (p : Place) (t : Tapes) → OnTapes f s p t
+  pub messages : (l : List ℕ) → length l ≤ 28 → MessageHolds l
   pub worked : Worked

@@ -112,8 +112,11 @@ abbrev pub to-each : Shares → Lists
 to-each s = lists (s .one ∷ []) (s .two ∷ []) (s .three ∷ []) []
 
 -- the controller receives the three shares 'in miner order'
+abbrev pub inOrder : Shares → List ℕ
+inOrder s = s .one ∷ s .two ∷ s .three ∷ []
+
 abbrev pub to-controller : Shares → Lists
-to-controller s = lists [] [] [] (s .one ∷ s .two ∷ s .three ∷ [])
+to-controller s = lists [] [] [] (inOrder s)
 
 -- ---- the place record
 

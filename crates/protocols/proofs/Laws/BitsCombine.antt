@@ -12,7 +12,7 @@ use Rattle.protocols.specs.declared.shares.Shares.{Shares}
 use Rattle.protocols.specs.declared.bits.Held.{Held}
 use Rattle.protocols.specs.declared.equal.Folding.{Folding}
 use Rattle.protocols.specs.Word.{width, modulus, add, sub, bitAt, up, choose}
-use Rattle.protocols.specs.Shares.{one, shares, AreWords, Operands, sumOf, xorOf}
+use Rattle.protocols.specs.Shares.{one, shares, Operands, sumOf, xorOf}
 use Rattle.protocols.specs.Place.{Tapes, word, counts, cut}
 use Rattle.protocols.specs.Protocol.{_then_}
 use Rattle.protocols.specs.Local.{difference}
@@ -30,7 +30,7 @@ use Rattle.protocols.proofs.Laws.Shared.{xor-masked, xor-round-s, xor-r
 use Rattle.protocols.proofs.Laws.Carry.{carryP, carryS, carry-sum}
 use Rattle.protocols.proofs.Laws.Fold.{foldPlain, fold-ones}
 use Rattle.protocols.proofs.Laws.RingCombine.{sum-lt, sum-r, sum-is, ring-combines}
-use Rattle.protocols.proofs.Laws.Counts.{difference-words, compared-words, low-lt, s₂₃-lt, s₃₂-lt, masked-words, rounds-counts}
+use Rattle.protocols.proofs.Laws.Counts.{compared-words, low-lt, s₂₃-lt, s₃₂-lt}
 
 -- ---- over plain words
 
@@ -147,10 +147,10 @@ module _ (n : ℕ) where
       same-mod m pos (add m v r) (sumOf m u) (q + q′ + a) (k + a′) (add-lt m pos v r) (sum-lt m pos u)
       (omega (arith, e, e′, f, f′, dealt-sum (sub m (u .one) r) (u .two) (u .three) (word t one 1)))
 
-  rounds-carry : (k : ℕ) (u : Shares) → AreWords m u → (t : Tapes) → Contents m (rounds n k .draws) t
+  rounds-carry : (k : ℕ) (u : Shares) (t : Tapes) → Contents m (rounds n k .draws) t
       → HeldCarries n k (sumOf m u) (rounds n k .result u t)
   unfolding rounds _then_ deal exchange round carryP carryS xorOf
-  rounds-carry zero u g t c =
+  rounds-carry zero u t c =
       let t′ = cut (counts 0 3 0 0) t in
       let v = add m (v₂ m u t′) (v₃ m u t′) in
       record {
@@ -163,12 +163,11 @@ module _ (n : ℕ) where
         s-is = and-shared v (word t′ one 0) (word t′ one 2);
         base-is = xor-shared v (word t′ one 0) (word t′ one 2);
       }
-  rounds-carry (suc k) u g t c =
+  rounds-carry (suc k) u t c =
       let t′ = cut (rounds n k .draws) t in
       let c′ = contents-cut m (rounds n k .draws) (round n k .draws) t c in
       let h = rounds n k .result u t′ in
-      let held = rounds-counts n k .made u g t′ c′ in
-      let i = rounds-carry k u g t′ c′ in
+      let i = rounds-carry k u t′ c′ in
       record {
         v = i .v;
         r = i .r;
@@ -177,17 +176,17 @@ module _ (n : ℕ) where
         adds-up = i .adds-up;
         p-is = xor-round-p (width n) k (masked (h .p) (h .q)) ∙ ap (λ (x : ℕ). roundP (width n) k x 0) (xor-masked (h .p) (h .q) ∙ i .p-is);
         s-is =
-            xor-round-s (width n) k (masked (h .p) (h .q)) (masked (h .s) (h .t)) (masked-words (width n) (held .s) (held .t))
+            xor-round-s (width n) k (masked (h .p) (h .q)) (masked (h .s) (h .t))
             ∙ ap₂ (λ (x y : ℕ). roundS (width n) k x 0 y 0) (xor-masked (h .p) (h .q) ∙ i .p-is) (xor-masked (h .s) (h .t) ∙ i .s-is);
         base-is = i .base-is;
       }
 
-  bits-xor : (u : Shares) → AreWords m u → (t : Tapes) → Contents m (bits n .draws) t → xorOf (bits n .result u t) ≡ sumOf m u
+  bits-xor : (u : Shares) (t : Tapes) → Contents m (bits n .draws) t → xorOf (bits n .result u t) ≡ sumOf m u
   unfolding bits _then_
-  bits-xor u g t c =
+  bits-xor u t c =
       let t′ = cut (rounds n n .draws) t in
       let h = rounds n n .result u t′ in
-      let i = rounds-carry n u g t′ (contents-cut m (rounds n n .draws) (counts 0 0 0 0) t c) in
+      let i = rounds-carry n u t′ (contents-cut m (rounds n n .draws) (counts 0 0 0 0) t c) in
       xor-joined (width n) h
       ∙ xor-comm (up (width n) (xorOf (h .s))) (xorOf (h .base))
       ∙ ap₂ (λ (x y : ℕ). bitXor x (up (width n) y)) (i .base-is) (i .s-is)
@@ -265,12 +264,12 @@ module _ (n : ℕ) where
       let t′ = cut (bits n .draws) t in
       let c′ = contents-cut m (bits n .draws) (bit m (width n - 1) .draws) t (contents-rest m (counts 0 0 0 0) _ t c) in
       bit-sum (width n - 1) (bits n .result d t′) _
-      ∙ ap (λ (y : ℕ). bitAt y (width n - 1)) (bits-xor d (difference-words m pos x) t′ c′ ∙ ring-combines m pos .difference-combines x)
+      ∙ ap (λ (y : ℕ). bitAt y (width n - 1)) (bits-xor d t′ c′ ∙ ring-combines m pos .difference-combines x)
 
   pub bits-combine : BitsCombine n
   bits-combine = record {
     bit-combines = bit-sum;
     bits-combines = bits-xor;
-    equal-combines = λ x g t c. equal-sum x t;
-    below-combines = λ x g t c. below-sum x t c;
+    equal-combines = equal-sum;
+    below-combines = below-sum;
   }

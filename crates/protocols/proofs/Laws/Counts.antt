@@ -31,7 +31,7 @@ use Rattle.protocols.specs.Open.{opening}
 use Rattle.protocols.specs.Below.{below}
 use Rattle.protocols.specs.Contents.{Words, Contents}
 use Rattle.protocols.specs.Counts.{received, due, Counted}
-use Rattle.protocols.specs.Claims.{OperandsAreWords, Table, TableNumbers}
+use Rattle.protocols.specs.Claims.{OperandsAreWords, Table, TableAt32}
 use Rattle.protocols.proofs.Laws.Ring.{add-lt, sub-lt, mul-lt}
 use Rattle.protocols.proofs.Laws.Bitwise.{bit-lt}
 use Rattle.protocols.proofs.Laws.Shared.{roundS-lt, roundP-lt, foldShare-lt, up-lt}
@@ -399,62 +399,20 @@ module _ (n : ℕ) where
   pub table : Table n
   unfolding below
   table = record {
-    store-counts = store-counts m m-pos;
-    sum-counts = counted-locally (λ x g. words-of (λ i. add-lt m m-pos (at i (x .u)) (at i (x .v))));
-    difference-counts = difference-counts;
-    shifted-counts = λ c. counted-locally (λ u g. words-three (add-lt m m-pos (u .one) c) (g two) (g three));
-    multiple-counts = λ c. counted-locally (λ u g. words-of (λ i. mul-lt m m-pos (at i u) c));
-    multiply-counts = multiply-counts m m-pos;
-    reshare-counts = reshare-counts m m-pos;
-    bits-counts = bits-counts;
-    bit-counts = bit-counts m two-le;
-    equal-counts = equal-counts;
-    opening-counts = opening-counts m m-pos;
-    below-counts =
+    store-row = store-counts m m-pos;
+    sum-row = counted-locally (λ x g. words-of (λ i. add-lt m m-pos (at i (x .u)) (at i (x .v))));
+    difference-row = difference-counts;
+    shifted-row = λ c. counted-locally (λ u g. words-three (add-lt m m-pos (u .one) c) (g two) (g three));
+    multiple-row = λ c. counted-locally (λ u g. words-of (λ i. mul-lt m m-pos (at i u) c));
+    multiply-row = multiply-counts m m-pos;
+    reshare-row = reshare-counts m m-pos;
+    bits-row = bits-counts;
+    bit-row = bit-counts m two-le;
+    equal-row = equal-counts;
+    opening-row = opening-counts m m-pos;
+    below-row =
         counted-along (counted-then difference-counts (counted-then bits-counts (bit-counts m two-le (width n - 1)))) (omega arith) (omega arith);
   }
 
-pub numbers : TableNumbers
-numbers = record {
-  bits-drawn = table 5 .bits-counts .drawn;
-  equal-drawn = table 5 .equal-counts .drawn;
-  below-drawn = table 5 .below-counts .drawn;
-  bits-received = refl;
-  equal-received = refl;
-  below-received = refl;
-}
-
--- ---- lengths of what is delivered, whatever is held and drawn
-
-abbrev pub Delivers : {S T : Type 0} → Protocol S T → Received → Type 0
-Delivers {S} f k = (s : S) (b : Tapes) (r : Receiver) → length (list r (f .received s b)) ≡ due r k
-
-lengths-of : (l : Lists) (r : Receiver)
-    → length (list r l) ≡ due r (received (length (l .one)) (length (l .two)) (length (l .three)) (length (l .controller)))
-lengths-of l (miner one) = refl
-lengths-of l (miner two) = refl
-lengths-of l (miner three) = refl
-lengths-of l controller = refl
-
-pub delivers-then : {S T Z : Type 0} (f : Protocol S T) (g : Protocol T Z) (j k : Received)
-    → Delivers f j → Delivers g k → Delivers (f then g) (plusReceived j k)
-unfolding _then_
-delivers-then f g j k d e s b (miner one) = simp length-append (ap₂ _+_ (d s _ (miner one)) (e _ _ (miner one)))
-delivers-then f g j k d e s b (miner two) = simp length-append (ap₂ _+_ (d s _ (miner two)) (e _ _ (miner two)))
-delivers-then f g j k d e s b (miner three) = simp length-append (ap₂ _+_ (d s _ (miner three)) (e _ _ (miner three)))
-delivers-then f g j k d e s b controller = simp length-append (ap₂ _+_ (d s _ controller) (e _ _ controller))
-
-module _ (n : ℕ) where
-  pub rounds-lengths : (k : ℕ) → Delivers (rounds n k) (received (2 + 4 * k) (5 + 4 * k) (5 + 4 * k) 0)
-  unfolding deal exchange round rounds
-  rounds-lengths zero = delivers-then (deal n) exchange _ _ (λ u b. lengths-of (deal n .received u b)) (λ d b. lengths-of (exchange .received d b))
-  rounds-lengths (suc k) =
-      subst (Delivers (rounds n (suc k))) (received-path (omega arith))
-      (delivers-then (rounds n k) (round n k) _ _ (rounds-lengths k) (λ h b. lengths-of (round n k .received h b)))
-
-  pub folds-lengths : (k : ℕ) → Delivers (folds n k) (received (1 + 2 * k) (2 + 2 * k) (2 + 2 * k) 0)
-  unfolding compare begin fold folds
-  folds-lengths zero = delivers-then (compare n) begin _ _ (λ x b. lengths-of (compare n .received x b)) (λ p b. lengths-of (begin .received p b))
-  folds-lengths (suc k) =
-      subst (Delivers (folds n (suc k))) (received-path (omega arith))
-      (delivers-then (folds n k) (fold n k) _ _ (folds-lengths k) (λ h b. lengths-of (fold n k .received h b)))
+pub table-at-32 : TableAt32
+table-at-32 = record { bits-row = table 5 .bits-row; equal-row = table 5 .equal-row; below-row = table 5 .below-row }

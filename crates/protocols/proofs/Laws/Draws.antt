@@ -9,7 +9,7 @@ use borrow.Author.Tests.{ltb-true, ltb-false, leb-true, leb-false, le-leb, lt-le
 use native.Mathlib.Decide.{decLe}
 use lib.ListN.{length, getD, take, drop, drop-of-length-le}
 use lib.Seq.{getD-take, getD-drop, take-take, take-add, take-nil, take-all, drop-drop, drop-at, length-take-le}
-use lib.Dec.{ltb, leb}
+use lib.Dec.{ltb, leb, leb·zero}
 use Rattle.protocols.specs.declared.place.Party.{Party}
 use Rattle.protocols.specs.declared.place.Party.the-variants.{Provider, One, Two, Three}
 use Rattle.protocols.specs.declared.place.Drawn.{Drawn}
@@ -26,6 +26,7 @@ use Rattle.protocols.specs.declared.draws.Triple.the-variants as triple
 use Rattle.protocols.specs.declared.draws.Double.{Double}
 use Rattle.protocols.specs.declared.draws.Double.the-variants as double
 use Rattle.protocols.specs.Shares.{one, shares}
+use Rattle.protocols.proofs.Laws.Blocks.{tapes-ext}
 use Rattle.protocols.specs.Draws.{drawEach, drawPairs, drawTriple, drawDouble}
 use Rattle.protocols.specs.Place.{word, words, Tapes, tape, counts, count, plus, cut, rest, advance, moved, draw, every, enough, block}
 
@@ -73,6 +74,34 @@ enough-true n p t h = every-true (has n p t) (λ i. le-leb (count i n) (length (
 pub enough-false : (n : Drawn) (p : Place) (t : Tapes) (i : Party) → length (tape i t) - count i (p .drawn) < count i n → enough n p t ≡ false
 unfolding enough has
 enough-false n p t i h = every-false (has n p t) i (lt-leb (count i n) (length (tape i t) - count i (p .drawn)) h)
+
+-- ---- tapes that are not drawn from
+
+-- tapes that agree where words are drawn
+abbrev pub Agree : Drawn → Tapes → Tapes → Type 0
+Agree n t t′ = (i : Party) → 0 < count i n → tape i t ≡ tape i t′
+
+pub enough-agree : (n : Drawn) (p : Place) (t t′ : Tapes) → Agree n t t′ → enough n p t ≡ enough n p t′
+unfolding enough has
+enough-agree n p t t′ h = every-same (has n p t) (has n p t′) (λ i. go i (count i n) refl)
+  where
+    go : (i : Party) (k : ℕ) → count i n ≡ k → has n p t i ≡ has n p t′ i
+    go i zero e = rw (e, leb·zero, leb·zero)
+    go i (suc k) e = ap (λ (l : List ℕ). leb (count i n) (length l - count i (p .drawn))) (h i (omega (arith, e)))
+
+pub block-agree : (n : Drawn) (p : Place) (t t′ : Tapes) → Agree n t t′ → block n p t ≡ block n p t′
+unfolding block
+block-agree n p t t′ h = tapes-ext (block n p t) (block n p t′) parts
+  where
+    part : (k d : ℕ) (l l′ : List ℕ) → (0 < k → l ≡ l′) → take k (drop d l) ≡ take k (drop d l′)
+    part zero d l l′ e = refl
+    part (suc k) d l l′ e = ap (λ (x : List ℕ). take (suc k) (drop d x)) (e (omega arith))
+
+    parts : (i : Party) → tape i (block n p t) ≡ tape i (block n p t′)
+    parts Provider = part (n .provider) (p .drawn .provider) (t .provider) (t′ .provider) (h Provider)
+    parts One = part (n .one) (p .drawn .one) (t .one) (t′ .one) (h One)
+    parts Two = part (n .two) (p .drawn .two) (t .two) (t′ .two) (h Two)
+    parts Three = part (n .three) (p .drawn .three) (t .three) (t′ .three) (h Three)
 
 -- ---- a block after a block
 

@@ -1,19 +1,21 @@
 -- Messages: words pushed one after the other, and their copy into the front of a tail.
 use mathlib.Core.Path.{_≡_, refl, sym, ap, _∙_}
-use mathlib.Core.List.{List, [], _∷_, _++_}
-use Prim.Native.Nat.{ℕ, suc, _+_, _≤_, _<_}
+use mathlib.Core.List.{List, [], _∷_, _++_, append-nil, append-assoc}
+use Prim.Native.Nat.{ℕ, suc, _+_, _-_, _≤_, _<_}
 use native.Mathlib.Nat.{zero-add}
 use native.Mathlib.Numerals.{add-one}
 use native.Mathlib.Omega.{arith}
-use lib.ListN.{length, take, drop, set, getD}
-use lib.Seq.{sets, sets-eq, paste, paste-suc, length-take-le}
+use lib.ListN.{length, take, drop, set, getD, replicate, length-append}
+use borrow.Author.Tests.{lt-leb}
+use Rattle.protocols.specs.Claims.{MessageHolds}
+use lib.Seq.{sets, sets-eq, paste, paste-suc, length-take-le, set-append-seam, append-snoc, take-append-seam}
 use Rattle.protocols.specs.declared.message.Message.{Message}
 use Rattle.protocols.specs.declared.message.Sent.{Sent}
 use Rattle.protocols.specs.Place.{Lists, silence, _followed-by_}
 use Rattle.protocols.specs.declared.shares.Shares.{Shares}
 use Rattle.protocols.specs.declared.place.Place.{Place}
 use Rattle.protocols.specs.Protocol.{Answer, done, spent}
-use Rattle.protocols.specs.Outcome.{message, pushed, pushes, append, sent, outcome, continued}
+use Rattle.protocols.specs.Outcome.{message, pushed, pushes, append, sent, outcome, continued, wordsOf}
 
 -- ---- words after words
 
@@ -35,6 +37,37 @@ append-append x l r =
 pub continued-nothing : (p : Place) (a : Answer Shares) → continued p (sent silence) a ≡ outcome p a
 continued-nothing p (done s l q) = rw append-sent
 continued-nothing p spent = refl
+
+-- ---- what a message holds
+
+-- the words that a message has, and room behind them
+room : List ℕ → ℕ → Message
+room l k = record { words = l ++ replicate k 0; count = length l }
+
+push-room : (l : List ℕ) (k w : ℕ) → length l + suc k ≤ 28 → pushed (room l (suc k)) w ≡ room (l ++ (w ∷ [])) k
+unfolding pushed room
+push-room l k w h =
+    rw (lt-leb 28 (length l) (omega arith))
+    (cc (set-append-seam l 0 (replicate k 0) w, append-snoc l w (replicate k 0), length-append l (w ∷ [])))
+
+pushes-room : (l r : List ℕ) (k : ℕ) → length l + length r + k ≤ 28 → pushes (room l (length r + k)) r ≡ room (l ++ r) k
+unfolding pushes
+pushes-room l [] k h = rw (zero-add k, append-nil l)
+pushes-room l (w ∷ r) k h =
+    let e : suc (length r) + k ≡ suc (length r + k) = omega arith in
+    let g : length (l ++ (w ∷ [])) ≡ length l + 1 = length-append l (w ∷ []) in
+    rw e
+    (ap (λ (x : Message). pushes x r) (push-room l (length r + k) w (omega arith))
+    ∙ pushes-room (l ++ (w ∷ [])) r k (omega arith)
+    ∙ ap (λ (x : List ℕ). room x k) (append-assoc l (w ∷ []) r))
+
+pub message-holds : (l : List ℕ) → length l ≤ 28 → MessageHolds l
+unfolding message room
+message-holds l h =
+    let k = 28 - length l in
+    let e : length l + k ≡ 28 = omega arith in
+    let g : message l ≡ room l k = ap (λ (n : ℕ). pushes (room [] n) l) (sym e) ∙ pushes-room [] l k (omega arith) in
+    record { counted = ap (λ (x : Message). x .count) g; words = ap wordsOf g ∙ take-append-seam l (replicate k 0) }
 
 -- ---- a copy, word by word
 

@@ -25,7 +25,7 @@ use Rattle.protocols.specs.declared.equal.Folding.{Folding}
 use Rattle.protocols.specs.declared.place.Draw.the-variants.{Word, Spent}
 use borrow.Author.Tests.{ltb-true, ltb-false}
 use lib.Bits.{bitXor, bitAnd}
-use lib.Dec.{ltb, leb·zero}
+use lib.Dec.{ltb}
 use lib.ListN.{length, getD}
 use Rattle.protocols.specs.declared.place.Drawn.{Drawn}
 use Rattle.protocols.specs.declared.place.Place.{Place}
@@ -43,11 +43,12 @@ use Rattle.protocols.specs.Shares.{one, shares, Operands}
 use Rattle.protocols.specs.Place.{Tapes, tapes, tape, count, Lists, lists, word, words, counts, plus, cut, rest, advance, moved, draw, enough, block, _followed-by_, to-next, to-two-three, to-each, to-controller, silence}
 use Rattle.protocols.specs.Draws.{drawEach, drawPairs, drawTriple, drawDouble}
 use Rattle.protocols.specs.Protocol.{Protocol, _then_, locally, Answer, done, spent, perform}
+use Rattle.protocols.specs.Claims.{OnTapes}
 use Rattle.protocols.specs.Store.{store}
 use Rattle.protocols.specs.Reshare.{fresh, reshare}
 use Rattle.protocols.specs.Multiply.{product, multiply}
 use Rattle.protocols.specs.Open.{opening}
-use Rattle.protocols.proofs.Laws.Draws.{after, after-each, after-pairs, after-triple, after-double, enough-true, enough-false, enough-plus, block-first, cut-block, rest-block, advance-plus}
+use Rattle.protocols.proofs.Laws.Draws.{after, after-each, after-pairs, after-triple, after-double, enough-true, enough-false, Agree, enough-agree, block-agree, enough-plus, block-first, cut-block, rest-block, advance-plus}
 
 -- ---- a protocol by its draws
 
@@ -305,13 +306,28 @@ module _ {S T Z : Type 0} (f : Protocol S T) (g : Protocol T Z) (s : S) (p : Pla
   pub then-done : {x : T} {l : Lists} {q : Place} → perform f s p t ≡ done x l q → perform (f then g) s p t ≡ preceded l (perform g x q t)
   then-done e = perform-then f g s p t ∙ ap (λ (a : Answer T). and-then a (λ x l q. preceded l (perform g x q t))) e
 
--- what is drawn from one tape alone does not depend on the others
-pub triple-of-one : (p : Place) (t : Tapes) → drawTriple p t ≡ drawTriple p (tapes [] (t .one) [] [])
-unfolding drawTriple enough block
-triple-of-one p t = simp leb·zero
+-- ---- tapes that are not drawn from
 
-pub bit-of-one : (m j : ℕ) (u : Shares) (p : Place) (t : Tapes) → perform (bit m j) u p t ≡ perform (bit m j) u p (tapes [] (t .one) [] [])
-bit-of-one m j u p t = bit-performs m j u p t ∙ rw (triple-of-one p t) (sym (bit-performs m j u p (tapes [] (t .one) [] [])))
+pub perform-agree : {S T : Type 0} (f : Protocol S T) (s : S) (p : Place) (t t′ : Tapes) → Agree (f .draws) t t′ → perform f s p t ≡ perform f s p t′
+unfolding perform
+perform-agree f s p t t′ h = rw (enough-agree (f .draws) p t t′ h, block-agree (f .draws) p t t′ h)
+
+-- miner 1's tape alone
+alone : (k : ℕ) (t : Tapes) → Agree (counts 0 k 0 0) t (tapes [] (t .one) [] [])
+alone k t Provider h = absurd (omega arith)
+alone k t One h = refl
+alone k t Two h = absurd (omega arith)
+alone k t Three h = absurd (omega arith)
+
+triple-of-one : (p : Place) (t : Tapes) → drawTriple p t ≡ drawTriple p (tapes [] (t .one) [] [])
+unfolding drawTriple
+triple-of-one p t = rw (enough-agree (counts 0 3 0 0) p t (tapes [] (t .one) [] []) (alone 3 t), block-agree (counts 0 3 0 0) p t (tapes [] (t .one) [] []) (alone 3 t))
+
+bit-of-one : (m j : ℕ) (u : Shares) (p : Place) (t : Tapes) → perform (bit m j) u p t ≡ perform (bit m j) u p (tapes [] (t .one) [] [])
+unfolding bit
+bit-of-one m j u p t = perform-agree (bit m j) u p t (tapes [] (t .one) [] []) (alone 3 t)
+
+-- ---- parts before and after
 
 -- a local step first
 locally-then : {S T Z : Type 0} (f : S → T) (g : Protocol T Z) (s : S) (p : Place) (t : Tapes) → perform (locally f then g) s p t ≡ perform g (f s) p t
@@ -495,3 +511,13 @@ outcome-done f s p t d = rw (d .is, d .are)
 
 pub outcome-spent : {S : Type 0} (f : Protocol S Shares) (s : S) (p : Place) (t : Tapes) → perform f s p t ≡ spent → outcome p spent ≡ outcome p (perform f s p t)
 outcome-spent f s p t e = rw e
+
+-- ---- done or spent, exactly
+
+pub on-tapes : {S T : Type 0} (f : Protocol S T) (s : S) (p : Place) (t : Tapes) → OnTapes f s p t
+unfolding perform
+on-tapes f s p t = record {
+  spent-if = λ i h. rw (enough-false (f .draws) p t i h);
+  done-if = λ h. rw (enough-true (f .draws) p t (λ i. omega (arith, h i)));
+  other-tapes = λ t′ h. perform-agree f s p t t′ h;
+}

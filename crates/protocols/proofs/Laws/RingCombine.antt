@@ -1,5 +1,5 @@
 -- New shares of the ring protocols add up to the right word, over any modulus above 0.
-use mathlib.Core.Path.{_≡_, ap, ap₂, _∙_}
+use mathlib.Core.Path.{_≡_, refl, ap, ap₂, _∙_}
 use Prim.Native.Nat.{ℕ, _+_, _*_, _<_}
 use native.Mathlib.Omega.{arith}
 use lib.ListN.{getD}
@@ -136,4 +136,5 @@ module _ (m : ℕ) (pos : 0 < m) where
     multiply-combines = λ x b.
         product-sum (masked-u m x b) (masked-v m x b) ∙ ap₂ (mul m) (fresh-sum (x .u) (words b 0)) (fresh-sum (x .v) (words b 1));
     opening-combines = λ u b. fresh-sum u (words b 0);
+    opening-shown = λ u b. refl;
   }

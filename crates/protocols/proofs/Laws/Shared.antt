@@ -141,10 +141,10 @@ xor-and-bits p s i j =
     ∙ sym (and-share-zero (bitAt (xorOf p) i) i (bitAt (xorOf s) j) j)
 
 module _ (w k : ℕ) (p : Shares) where
-  pub xor-round-s : (s : Shares) → AreWords (2 ^ w) s
+  pub xor-round-s : (s : Shares)
       → xorOf (each (λ i. roundS w k (at i p) (at (prev i) p) (at i s) (at (prev i) s))) ≡ roundS w k (xorOf p) 0 (xorOf s) 0
   unfolding roundS
-  xor-round-s s h =
+  xor-round-s s =
       xor-positions w (λ i. roundSAt k (at i p) (at (prev i) p) (at i s) (at (prev i) s)) (roundSAt k (xorOf p) 0 (xorOf s) 0)
       (λ i. roundSAt-lt k (at i p) (at (prev i) p) (at i s) (at (prev i) s))
       (λ j. xor-choose (bitAt j k) (bitsAt j s) (xors (bitsAt j s) (ands (bitsAt j p) (bitsAt (source k j) s)))
