@@ -1,5 +1,5 @@
 -- The claims of specs/Claims.antt, proved.
-use mathlib.Core.Path.{_≡_, refl}
+use mathlib.Core.Path.{refl}
 use Rattle.protocols.specs.Claims.{Claims}
 use Rattle.protocols.specs.Worked.{Worked}
 use Rattle.protocols.specs.Word.{add, sub, bitAt, ofBits, up}

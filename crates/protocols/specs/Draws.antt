@@ -1,5 +1,4 @@
 -- Several draws at once: the words of a block with the moved place, or spent. (01, 'Handles, tapes and places')
-use Prim.Native.Nat.{ℕ}
 use mathlib.Core.Bool.{cond}
 use lib.ListN.{getD}
 use Rattle.protocols.specs.declared.place.Place.{Place}

@@ -3,7 +3,7 @@ use Prim.Native.Nat.{ℕ}
 use Rattle.protocols.specs.declared.shares.Shares.{Shares}
 use Rattle.protocols.specs.Word.{add, mul}
 use Rattle.protocols.specs.Shares.{prev, at, each, Operands}
-use Rattle.protocols.specs.Place.{Tapes, Lists, counts, words, to-next, _followed-by_}
+use Rattle.protocols.specs.Place.{Tapes, counts, words, to-next, _followed-by_}
 use Rattle.protocols.specs.Protocol.{Protocol}
 use Rattle.protocols.specs.Reshare.{fresh}
 

@@ -1,7 +1,5 @@
 -- A protocol, or a part of one: what it draws, what the miners then hold, and what each party receives.
-use Prim.Native.Nat.{ℕ, _+_}
 use mathlib.Core.Bool.{cond}
-use mathlib.Core.List.{List, [], _∷_, _++_}
 use Rattle.protocols.specs.declared.place.Drawn.{Drawn}
 use Rattle.protocols.specs.declared.place.Place.{Place}
 use Rattle.protocols.specs.Place.{Tapes, Lists, counts, plus, cut, rest, silence, _followed-by_, advance, enough, block}

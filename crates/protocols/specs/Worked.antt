@@ -1,9 +1,8 @@
 -- The worked cases of 01, 'Reckoned by hand', that concern one protocol: M5 to M9.
 use Prim.Native.Nat.{ℕ}
 use mathlib.Core.Path.{_≡_}
-use mathlib.Core.List.{List, [], _∷_}
+use mathlib.Core.List.{[], _∷_}
 use lib.ListN.{replicate}
-use Rattle.protocols.specs.declared.shares.Shares.{Shares}
 use Rattle.protocols.specs.Word.{modulus, bitAt}
 use Rattle.protocols.specs.Shares.{shares, xorOf, operands}
 use Rattle.protocols.specs.Place.{Tapes, tapes}

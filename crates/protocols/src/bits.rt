@@ -106,35 +106,35 @@ fn carried(k: u32, p: Shares, s: Shares, q: Shares, t: Shares, base: Shares) -> 
 }
 
 // Shares of p and s from what miner 1 dealt.
-fn start(v2: u32, v3: u32, c2: u32, c3: u32) -> Dealt
-    ensures { λ r. ⌜ r ≡ spec.start (modulus 5) v2 v3 c2 c3 ⌝ }
+fn start(v2: u32, v3: u32, bar2: u32, bar3: u32) -> Dealt
+    ensures { λ r. ⌜ r ≡ spec.start (modulus 5) v2 v3 bar2 bar3 ⌝ }
 {
     let v = ring::add(v2, v3);
     Dealt {
         p: Shares {
             one: 0,
-            two: v ^ c2,
-            three: c3,
+            two: v ^ bar2,
+            three: bar3,
         },
         s: Shares {
             one: 0,
-            two: v & c2,
-            three: v & c3,
+            two: v & bar2,
+            three: v & bar3,
         },
         v2,
         v3,
     }
 }
 
-// The dealing, from the words r, r2 and R2 that miner 1 drew.
-fn deal(u: Shares, r: u32, a: u32, b: u32) -> Dealing
-    ensures { λ d. ⌜ d ≡ dealing 5 u r a b ⌝ }
+// The dealing, from the words that miner 1 drew. (bar2, bar3 are document 01's R2, R3.)
+fn deal(u: Shares, r: u32, r2: u32, bar2: u32) -> Dealing
+    ensures { λ d. ⌜ d ≡ dealing 5 u r r2 bar2 ⌝ }
 {
-    let r3 = ring::sub(ring::sub(u.one, r), a);
-    let c3 = r ^ b;
+    let r3 = ring::sub(ring::sub(u.one, r), r2);
+    let bar3 = r ^ bar2;
     Dealing {
-        dealt: start(ring::add(u.two, a), ring::add(u.three, r3), b, c3),
-        sent: Sent::new().to_two_three(a, r3).to_two_three(b, c3),
+        dealt: start(ring::add(u.two, r2), ring::add(u.three, r3), bar2, bar3),
+        sent: Sent::new().to_two_three(r2, r3).to_two_three(bar2, bar3),
     }
 }
 
@@ -153,13 +153,13 @@ fn joined(h: Held) -> Shares
 pub fn bits(u: Shares, place: Place, tape1: &[u32], tape2: &[u32], tape3: &[u32]) -> Outcome
     ensures { λ r. ⌜ r ≡ outcome place (perform (spec.bits 5) u place (tapes [] (now (tape1 .entry)) (now (tape2 .entry)) (now (tape3 .entry)))) ⌝ }
 {
-    let Triple::Words(r, r2, c2, dealt_at) = draws::draw_triple(place, tape1) else {
+    let Triple::Words(r, r2, bar2, dealt_at) = draws::draw_triple(place, tape1) else {
         return Outcome::spent(place);
     };
     let Pairs::Words(q, t, begun_at) = draws::draw_pairs(dealt_at, tape1, tape2, tape3) else {
         return Outcome::spent(place);
     };
-    let dealing = deal(u, r, r2, c2);
+    let dealing = deal(u, r, r2, bar2);
     let dealt = dealing.dealt;
     let p = dealt.p;
     let s = dealt.s;

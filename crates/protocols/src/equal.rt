@@ -69,14 +69,14 @@ fn folded(k: u32, p: Shares, q: Shares) -> Folding
     }
 }
 
-// Shares of p: all ones where the shares d of a difference are those of 0.
-fn compared(d: Shares, a: u32, b: u32) -> Shares
-    ensures { λ r. ⌜ r ≡ spec.start (modulus 5) d a b ⌝ }
+// Shares of p, from the shares d of u - v: they give all ones exactly where d gives 0.
+fn compared(d: Shares, r2: u32, r3: u32) -> Shares
+    ensures { λ r. ⌜ r ≡ spec.start (modulus 5) d r2 r3 ⌝ }
 {
     Shares {
         one: 0xffff_ffff,
-        two: ring::add(d.two, a),
-        three: ring::sub(0, ring::add(d.three, b)),
+        two: ring::add(d.two, r2),
+        three: ring::sub(0, ring::add(d.three, r3)),
     }
 }
 

@@ -1,14 +1,14 @@
 -- Blocks of words: their lengths and bounds, and what is cut off, left and joined again.
-use mathlib.Core.Path.{_≡_, refl, sym, ap, ap₂, _∙_}
+use mathlib.Core.Path.{_≡_, refl}
 use mathlib.Core.List.{List, [], _∷_, _++_}
-use Prim.Native.Nat.{ℕ, zero, suc, _+_, _-_, _≤_, _<_}
+use Prim.Native.Nat.{ℕ, zero, suc, _+_, _<_}
 use native.Mathlib.Omega.{arith}
-use lib.ListN.{length, take, drop, getD, length-append, length-take, length-drop, take-append-drop}
+use lib.ListN.{take, drop, getD, length-append, length-take, length-drop, take-append-drop}
 use lib.Seq.{take-at, drop-at}
 use Rattle.protocols.specs.declared.place.Party.{Party}
 use Rattle.protocols.specs.declared.place.Party.the-variants.{Provider, One, Two, Three}
 use Rattle.protocols.specs.declared.place.Drawn.{Drawn}
-use Rattle.protocols.specs.Place.{Tapes, tapes, tape, count, plus, cut, rest, join}
+use Rattle.protocols.specs.Place.{Tapes, tapes, tape, plus, cut, rest, join}
 use Rattle.protocols.specs.Contents.{Below, Words, Contents}
 
 -- ---- one list

@@ -1,10 +1,9 @@
 -- What each protocol draws, delivers and makes: laws of Counted, and document 01's table.
-use mathlib.Core.Path.{_≡_, refl, ap₂, subst, subst₂}
+use mathlib.Core.Path.{_≡_, refl, ap₂, subst₂}
 use mathlib.Core.List.{[], _∷_}
 use Prim.Native.Nat.{ℕ, zero, suc, _+_, _-_, _*_, _^_, _≤_, _<_}
 use native.Mathlib.Nat.{mod-lt, zero-lt-suc, lt-of-le-of-lt}
 use native.Mathlib.Omega.{arith}
-use lib.ListN.{length, length-append}
 use lib.Pow.{pow-pos, pow-mono}
 use lib.Bits.{bitXor, xor-lt, and-le-l}
 use Rattle.protocols.specs.declared.place.Party.the-variants.{Provider, One, Two, Three}

@@ -1,7 +1,7 @@
 -- Draws: one word at a time is the same as a block, and a block after a block is one block.
-use mathlib.Core.Path.{_≡_, refl, sym, ap, ap₂, _∙_}
-use mathlib.Core.Bool.{Bool, true, false, cond, _&&_}
-use mathlib.Core.List.{List, [], _∷_, _++_, append-nil}
+use mathlib.Core.Path.{_≡_, refl, ap, _∙_}
+use mathlib.Core.Bool.{Bool, true, false, _&&_}
+use mathlib.Core.List.{List, [], _++_, append-nil}
 use Prim.Native.Nat.{ℕ, zero, suc, _+_, _-_, _≤_, _<_}
 use native.Mathlib.Nat.{add-zero, add-assoc}
 use native.Mathlib.Omega.{arith}
@@ -28,7 +28,7 @@ use Rattle.protocols.specs.declared.draws.Double.the-variants as double
 use Rattle.protocols.specs.Shares.{one, shares}
 use Rattle.protocols.proofs.Laws.Blocks.{tapes-ext}
 use Rattle.protocols.specs.Draws.{drawEach, drawPairs, drawTriple, drawDouble}
-use Rattle.protocols.specs.Place.{word, words, Tapes, tape, counts, count, plus, cut, rest, advance, moved, draw, every, enough, block}
+use Rattle.protocols.specs.Place.{Tapes, tape, counts, count, plus, cut, rest, advance, draw, every, enough, block}
 
 -- ---- tests of every party
 

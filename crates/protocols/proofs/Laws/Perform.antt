@@ -24,19 +24,14 @@ use Rattle.protocols.specs.Equal.{compare, begin, folded, fold, folds, e
 use Rattle.protocols.specs.declared.equal.Folding.{Folding}
 use Rattle.protocols.specs.declared.place.Draw.the-variants.{Word, Spent}
 use borrow.Author.Tests.{ltb-true, ltb-false}
-use lib.Bits.{bitXor, bitAnd}
 use lib.Dec.{ltb}
 use lib.ListN.{length, getD}
 use Rattle.protocols.specs.declared.place.Drawn.{Drawn}
 use Rattle.protocols.specs.declared.place.Place.{Place}
 use Rattle.protocols.specs.declared.shares.Shares.{Shares}
-use Rattle.protocols.specs.declared.draws.Each.{Each}
 use Rattle.protocols.specs.declared.draws.Each.the-variants as each
-use Rattle.protocols.specs.declared.draws.Pairs.{Pairs}
 use Rattle.protocols.specs.declared.draws.Pairs.the-variants as pairs
-use Rattle.protocols.specs.declared.draws.Triple.{Triple}
 use Rattle.protocols.specs.declared.draws.Triple.the-variants as triple
-use Rattle.protocols.specs.declared.draws.Double.{Double}
 use Rattle.protocols.specs.declared.draws.Double.the-variants as double
 use Rattle.protocols.specs.Word.{width, modulus, sub}
 use Rattle.protocols.specs.Shares.{one, shares, Operands}

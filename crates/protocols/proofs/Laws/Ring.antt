@@ -1,5 +1,5 @@
 -- Laws of sums, differences and products modulo m, for any m above 0.
-use mathlib.Core.Path.{_≡_, refl, sym, ap, ap₂, _∙_}
+use mathlib.Core.Path.{_≡_, sym, ap, _∙_}
 use Prim.Native.Nat.{ℕ, _+_, _-_, _*_, _/_, _%_, _^_, _<_}
 use native.Mathlib.Nat.{mod-lt, mod-eq-of-lt, div-add-mod', add-mul-mod-self-right, lt-of-le-of-lt, le-of-lt, mul-le-mul-left, mul-lt-mul-of-pos-right}
 use lib.Pow.{pow-add, pow-pos}
@@ -45,18 +45,6 @@ module _ (m : ℕ) (pos : 0 < m) where
       let (q′, k′, e′) = sub-r c (sub m c x) in
       same-mod (sub m c (sub m c x)) x (q′ + k) (k′ + q) (sub-lt c (sub m c x)) h (omega (arith, e, e′))
 
-  pub add-sub : (x d : ℕ) → x < m → sub m (add m x d) d ≡ x
-  add-sub x d h =
-      let (q, e) = add-r x d in
-      let (q′, k′, e′) = sub-r (add m x d) d in
-      same-mod (sub m (add m x d) d) x (q′ + q) k′ (sub-lt (add m x d) d) h (omega (arith, e, e′))
-
-  pub sub-add : (x d : ℕ) → x < m → add m (sub m x d) d ≡ x
-  sub-add x d h =
-      let (q, k, e) = sub-r x d in
-      let (q′, e′) = add-r (sub m x d) d in
-      same-mod (add m (sub m x d) d) x (q′ + q) k (add-lt (sub m x d) d) h (omega (arith, e, e′))
-
   pub sub-comm : (a b c : ℕ) → sub m (sub m a b) c ≡ sub m (sub m a c) b
   sub-comm a b c =
       let (q, k, e) = sub-r a b in
@@ -66,16 +54,16 @@ module _ (m : ℕ) (pos : 0 < m) where
       same-mod (sub m (sub m a b) c) (sub m (sub m a c) b) (q + q′ + l + l′) (p + p′ + k + k′) (sub-lt (sub m a b) c) (sub-lt (sub m a c) b) (omega (arith, e, e′, f, f′))
 
   -- s + r - p, and r back from it
-  pub unmix : (s r p : ℕ) → r < m → sub m (add m (sub m (add m s r) p) p) s ≡ r
-  unmix s r p h =
+  pub mask-from-fresh : (s r p : ℕ) → r < m → sub m (add m (sub m (add m s r) p) p) s ≡ r
+  mask-from-fresh s r p h =
       let (q1, e1) = add-r s r in
       let (q2, k2, e2) = sub-r (add m s r) p in
       let (q3, e3) = add-r (sub m (add m s r) p) p in
       let (q4, k4, e4) = sub-r (add m (sub m (add m s r) p) p) s in
       same-mod (sub m (add m (sub m (add m s r) p) p) s) r (q1 + q2 + q3 + q4) (k2 + k4) (sub-lt _ _) h (omega (arith, e1, e2, e3, e4))
 
-  pub mix : (s w p : ℕ) → w < m → sub m (add m s (sub m (add m w p) s)) p ≡ w
-  mix s w p h =
+  pub fresh-from-mask : (s w p : ℕ) → w < m → sub m (add m s (sub m (add m w p) s)) p ≡ w
+  fresh-from-mask s w p h =
       let (q1, e1) = add-r w p in
       let (q2, k2, e2) = sub-r (add m w p) s in
       let (q3, e3) = add-r s (sub m (add m w p) s) in

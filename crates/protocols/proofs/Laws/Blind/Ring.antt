@@ -18,7 +18,7 @@ use Rattle.protocols.specs.Open.{opening}
 use Rattle.protocols.specs.Contents.{Contents}
 use Rattle.protocols.specs.Blind.{Observer, watching, controlling, both, Sees, SameShares, SameOperands, SameOpened, Blind}
 use Rattle.protocols.specs.Claims.{OperandsAreWords}
-use Rattle.protocols.proofs.Laws.Ring.{same-mod, sub-lt, sub-sub, sub-comm, unmix, mix}
+use Rattle.protocols.proofs.Laws.Ring.{same-mod, sub-lt, sub-sub, sub-comm, mask-from-fresh, fresh-from-mask}
 use Rattle.protocols.proofs.Laws.RingCombine.{sum-r, fresh-sum}
 use Rattle.protocols.proofs.Laws.Blocks.{word-lt}
 use Rattle.protocols.proofs.Laws.Blind.Compose.{BlindFor, unmasked-for, blind-unmasked, blind-locally, blind-as-miner, blind-silent}
@@ -161,8 +161,8 @@ module _ {m : ℕ} (pos : 0 < m) where
     unmask = unmask-controller;
     mask-words = λ s a b c. shown-words b c _ _ (sub-lt m pos _ _) (sub-lt m pos _ _);
     unmask-words = λ s a b c. shown-words b c _ _ (sub-lt m pos _ _) (sub-lt m pos _ _);
-    unmask-mask = λ s a b c. shown-back b c _ _ (unmix m pos _ _ _) (sub-sub m pos _ _);
-    mask-unmask = λ s a b c. shown-back b c _ _ (mix m pos _ _ _) (sub-sub m pos _ _);
+    unmask-mask = λ s a b c. shown-back b c _ _ (mask-from-fresh m pos _ _ _) (sub-sub m pos _ _);
+    mask-unmask = λ s a b c. shown-back b c _ _ (fresh-from-mask m pos _ _ _) (sub-sub m pos _ _);
     mask-own = λ s a b c. elim [ Provider ↦ λ e. absurd e | One ↦ λ e. absurd e | Two ↦ λ e. absurd e | Three ↦ λ e. absurd e ];
     same = λ s s′ a a′ r b b′ c c′ d.
         let all = fresh-all s s′ (words b 0) (words b′ 0) (r .1 tt) one (ap (λ (t : Tapes). word t one 0) d) (ap (λ (t : Tapes). word t two 0) d) in

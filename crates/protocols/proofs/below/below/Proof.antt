@@ -1,33 +1,23 @@
+-- `protocols::below::below` meets its contract.
 use borrow.Author.Tests.{not-true, not-false}
 use mathlib.Core.Path.{_∙_}
 use Rattle.protocols.specs.Shares.{operands}
 use Rattle.protocols.proofs.Laws.Perform.{below-ends, below-stops}
-use borrow.Author.Needs.{needs}
 use Rattle.protocols.proofs.below.below.Statement.{statement}
 use Rattle.protocols.proofs.below.below.Tie as tie
-use Rattle.protocols.proofs.below.below.Reads as reads
-use Rattle.protocols.proofs.below.below.Lts as lts
-use Rattle.protocols.proofs.bit.bit_after.Reads as bit-after-reads
-use Rattle.protocols.proofs.bits.bits.Reads as bits-reads
-use Rattle.protocols.proofs.local.difference.Reads as difference-reads
 
--- src/below.rt:27:27
 difference-requires : tie.Need-difference-requires
-difference-requires c κs = search needs
+difference-requires c κs = tt
 
--- src/below.rt:27:9
 bits-requires : tie.Need-bits-requires
-bits-requires c κs = search needs
+bits-requires c κs = tt
 
--- src/below.rt:30:9
 returns : tie.Need-returns
 returns c = below-stops 5 (operands (c .before .before .before .before .before .before .args .u) (c .before .before .before .before .before .before .args .v)) _ _ ((c .before .bits) .result) (rw ((c .before .before .difference) .ensures) at ((c .before .bits) .ensures)) (not-true _ ((c .if1) .taken))
 
--- src/below.rt:35:5
 bit-after-requires : tie.Need-bit-after-requires
-bit-after-requires c κs = search needs
+bit-after-requires c κs = tt
 
--- src/below.rt:17:1
 returns-2 : tie.Need-returns-2
 returns-2 c = (c .bit-after) .ensures ∙ below-ends 5 (operands (c .before .before .before .before .before .before .before .before .before .before .args .u) (c .before .before .before .before .before .before .before .before .before .before .args .v)) _ _ ((c .before .before .before .before .before .bits) .result) (rw ((c .before .before .before .before .before .before .difference) .ensures) at ((c .before .before .before .before .before .bits) .ensures)) (not-false _ ((c .before .before .before .before .if1) .left))
 

@@ -1,3 +1,4 @@
+-- `protocols::bit::bit_after` meets its contract.
 use mathlib.Core.Path.{sym, _∙_}
 use Rattle.protocols.proofs.Laws.Perform.{bit-performs}
 use Rattle.protocols.proofs.Laws.Messages.{append-append}
@@ -5,69 +6,46 @@ use Rattle.protocols.specs.Bit.{bit}
 use borrow.Author.Needs.{needs}
 use Rattle.protocols.proofs.bit.bit_after.Statement.{statement}
 use Rattle.protocols.proofs.bit.bit_after.Tie as tie
-use Rattle.protocols.proofs.bit.bit_after.Reads as reads
-use Rattle.protocols.proofs.bit.bit_after.Lts as lts
-use Rattle.protocols.proofs.bit.bits_at.Reads as bits-at-reads
-use Rattle.protocols.proofs.bit.converted.Reads as converted-reads
-use Rattle.protocols.proofs.bit.low_bit.Reads as low-bit-reads
-use Rattle.protocols.proofs.draws.draw_triple.Reads as draw-triple-reads
-use Rattle.protocols.proofs.message.Sent.to_two_three.Reads as to-two-three-reads
-use Rattle.protocols.proofs.outcome.Outcome.spent.Reads as spent-reads
-use Rattle.protocols.proofs.ring.sub.Reads as sub-reads
 
--- src/bit.rt:74:54
 draw-triple-requires : tie.Need-draw-triple-requires
-draw-triple-requires c κs = search needs
+draw-triple-requires c κs = tt
 
--- src/bit.rt:74:23
 enum-known-word-b : tie.Need-enum-known-word-b
 enum-known-word-b c = search needs
 
--- src/bit.rt:75:9
 enum-told : tie.Need-enum-told
 enum-told c = search needs
 
--- src/bit.rt:75:9
 spent-requires : tie.Need-spent-requires
-spent-requires c κs = search needs
+spent-requires c κs = tt
 
--- src/bit.rt:75:9
 returns : tie.Need-returns
 returns c = rw (bit-performs, sym ((c .before .before .before .draw-triple) .ensures) ∙ (c .before .enum-told) .given .1) ((c .spent) .ensures)
 
--- src/bit.rt:77:9
 bits-at-requires : tie.Need-bits-at-requires
-bits-at-requires c κs = search needs
+bits-at-requires c κs = tt
 
--- src/bit.rt:78:9
 low-bit-requires : tie.Need-low-bit-requires
-low-bit-requires c κs = search needs
+low-bit-requires c κs = tt
 
--- src/bit.rt:79:9
 low-bit-requires-2 : tie.Need-low-bit-requires-2
-low-bit-requires-2 c κs = search needs
+low-bit-requires-2 c κs = tt
 
--- src/bit.rt:80:9
 sub-requires : tie.Need-sub-requires
-sub-requires c κs = search needs
+sub-requires c κs = tt
 
--- src/bit.rt:86:17
 converted-requires : tie.Need-converted-requires
-converted-requires c κs = search needs
+converted-requires c κs = tt
 
--- src/bit.rt:88:15
 to-two-three-requires : tie.Need-to-two-three-requires
-to-two-three-requires c κs = search needs
+to-two-three-requires c κs = tt
 
--- src/bit.rt:88:15
 to-two-three-requires-2 : tie.Need-to-two-three-requires-2
-to-two-three-requires-2 c κs = search needs
+to-two-three-requires-2 c κs = tt
 
--- src/bit.rt:88:15
 to-two-three-requires-3 : tie.Need-to-two-three-requires-3
-to-two-three-requires-3 c κs = search needs
+to-two-three-requires-3 c κs = tt
 
--- src/bit.rt:71:1
 returns-2 : tie.Need-returns-2
 unfolding bit
 returns-2 c = rw (bit-performs, sym ((c .before .before .before .before .before .before .before .before .before .before .before .before .before .before .draw-triple) .ensures) ∙ (c .before .before .before .before .before .before .before .before .before .before .before .before .word-b) .given .1, (c .to-two-three3) .ensures, (c .before .to-two-three2) .ensures, (c .before .before .to-two-three) .ensures, (c .before .before .before .converted) .ensures, (c .before .before .before .before .before .before .sub) .ensures, (c .before .before .before .before .before .before .before .before .before .low-bit) .ensures, (c .before .before .before .before .before .before .before .before .low-bit2) .ensures, (c .before .before .before .before .before .before .before .before .before .before .bits-at) .ensures) (simp append-append)

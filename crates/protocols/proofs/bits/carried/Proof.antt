@@ -1,36 +1,26 @@
+-- `protocols::bits::carried` meets its contract.
 use borrow.Author.Needs.{needs}
 use Rattle.protocols.proofs.bits.carried.Statement.{statement}
 use Rattle.protocols.proofs.bits.carried.Tie as tie
-use Rattle.protocols.proofs.bits.carried.Reads as reads
-use Rattle.protocols.proofs.bits.carried.Lts as lts
-use Rattle.protocols.proofs.bits.round_p.Reads as round-p-reads
-use Rattle.protocols.proofs.bits.round_s.Reads as round-s-reads
 
--- src/bits.rt:87:18
 round-p-requires : tie.Need-round-p-requires
 round-p-requires c κs = search needs
 
--- src/bits.rt:88:18
 round-p-requires-2 : tie.Need-round-p-requires-2
 round-p-requires-2 c κs = search needs
 
--- src/bits.rt:89:20
 round-p-requires-3 : tie.Need-round-p-requires-3
 round-p-requires-3 c κs = search needs
 
--- src/bits.rt:92:18
 round-s-requires : tie.Need-round-s-requires
 round-s-requires c κs = search needs
 
--- src/bits.rt:93:18
 round-s-requires-2 : tie.Need-round-s-requires-2
 round-s-requires-2 c κs = search needs
 
--- src/bits.rt:94:20
 round-s-requires-3 : tie.Need-round-s-requires-3
 round-s-requires-3 c κs = search needs
 
--- src/bits.rt:81:1
 returns : tie.Need-returns
 returns c = rw ((c .before .before .before .before .before .round-p) .ensures, (c .before .before .before .before .round-p2) .ensures, (c .before .before .before .round-p3) .ensures, (c .before .before .round-s) .ensures, (c .before .round-s2) .ensures, (c .round-s3) .ensures)
 

@@ -1,11 +1,9 @@
+-- `protocols::bits::joined` meets its contract.
 use mathlib.Core.Path.{refl}
 use Rattle.protocols.specs.Word.{up}
 use Rattle.protocols.proofs.bits.joined.Statement.{statement}
 use Rattle.protocols.proofs.bits.joined.Tie as tie
-use Rattle.protocols.proofs.bits.joined.Reads as reads
-use Rattle.protocols.proofs.bits.joined.Lts as lts
 
--- src/bits.rt:124:1
 returns : tie.Need-returns
 unfolding up
 returns c = refl

@@ -1,3 +1,4 @@
+-- `protocols::bits::round_p` meets its contract.
 use Prim.Native.Nat.{_<_}
 use Rattle.protocols.proofs.Laws.Tables.{clear-at}
 use Rattle.protocols.specs.WordForm.{wordP}
@@ -5,32 +6,22 @@ use Rattle.protocols.proofs.Laws.WordForm.{word-forms}
 use borrow.Author.Needs.{needs}
 use Rattle.protocols.proofs.bits.round_p.Statement.{statement}
 use Rattle.protocols.proofs.bits.round_p.Tie as tie
-use Rattle.protocols.proofs.bits.round_p.Reads as reads
-use Rattle.protocols.proofs.bits.round_p.Lts as lts
-use Rattle.protocols.proofs.bits.spread.Reads as spread-reads
-use Rattle.protocols.proofs.masked.and_share.Reads as and-share-reads
 
--- src/bits.rt:77:10
 mul-result : tie.Need-mul-result
 mul-result c = search needs
 
--- src/bits.rt:77:10
 array-read-result : tie.Need-array-read-result
 array-read-result c = search needs
 
--- src/bits.rt:77:55
 spread-requires : tie.Need-spread-requires
 spread-requires c κs = search needs
 
--- src/bits.rt:77:69
 spread-requires-2 : tie.Need-spread-requires-2
 spread-requires-2 c κs = search needs
 
--- src/bits.rt:77:31
 and-share-requires : tie.Need-and-share-requires
 and-share-requires c κs = search needs
 
--- src/bits.rt:73:1
 returns : tie.Need-returns
 unfolding wordP
 returns c = let h : c .before .before .before .args .k < 5 = search needs in rw (clear-at (c .before .before .before .args .k) h, (c .and-share) .ensures, (c .before .before .spread) .ensures, (c .before .spread2) .ensures) (word-forms 5 (c .before .before .before .args .k) h .form-p (c .before .before .before .args .p) (c .before .before .before .args .x))

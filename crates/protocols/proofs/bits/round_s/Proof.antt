@@ -1,28 +1,19 @@
-use Prim.Native.Nat.{_<_}
-use mathlib.Core.Path.{_∙_}
+-- `protocols::bits::round_s` meets its contract.
 use Rattle.protocols.specs.WordForm.{wordS}
 use Rattle.protocols.proofs.Laws.WordForm.{word-forms}
 use borrow.Author.Needs.{needs}
 use Rattle.protocols.proofs.bits.round_s.Statement.{statement}
 use Rattle.protocols.proofs.bits.round_s.Tie as tie
-use Rattle.protocols.proofs.bits.round_s.Reads as reads
-use Rattle.protocols.proofs.bits.round_s.Lts as lts
-use Rattle.protocols.proofs.bits.spread.Reads as spread-reads
-use Rattle.protocols.proofs.masked.and_share.Reads as and-share-reads
 
--- src/bits.rt:69:33
 spread-requires : tie.Need-spread-requires
 spread-requires c κs = search needs
 
--- src/bits.rt:69:47
 spread-requires-2 : tie.Need-spread-requires-2
 spread-requires-2 c κs = search needs
 
--- src/bits.rt:69:9
 and-share-requires : tie.Need-and-share-requires
 and-share-requires c κs = search needs
 
--- src/bits.rt:65:1
 returns : tie.Need-returns
 unfolding wordS
 returns c = rw ((c .and-share) .ensures, (c .before .before .spread) .ensures, (c .before .spread2) .ensures) (word-forms 5 (c .before .before .before .args .k) (search needs) .form-s (c .before .before .before .args .p) (c .before .before .before .args .x) (c .before .before .before .args .s) (c .before .before .before .args .y) (search needs))

@@ -1,3 +1,4 @@
+-- `protocols::bits::spread` meets its contract.
 use Prim.Native.Nat.{_<_}
 use lib.Pow.{pow-lt}
 use Rattle.protocols.proofs.Laws.Tables.{sources-at, stride}
@@ -6,30 +7,22 @@ use Rattle.protocols.proofs.Laws.WordForm.{spread-le}
 use borrow.Author.Needs.{needs}
 use Rattle.protocols.proofs.bits.spread.Statement.{statement}
 use Rattle.protocols.proofs.bits.spread.Tie as tie
-use Rattle.protocols.proofs.bits.spread.Reads as reads
-use Rattle.protocols.proofs.bits.spread.Lts as lts
 
--- src/bits.rt:60:17
 mul-t : tie.Need-mul-t
 mul-t c = search needs
 
--- src/bits.rt:60:17
 array-read-t : tie.Need-array-read-t
 array-read-t c = search needs
 
--- src/bits.rt:61:13
 shl-result : tie.Need-shl-result
 shl-result c = search needs
 
--- src/bits.rt:61:7
 shl-result-2 : tie.Need-shl-result-2
 shl-result-2 c = let h : c .args .k < 5 = search needs in rw (stride (c .args .k) h) (pow-lt h)
 
--- src/bits.rt:61:6
 sub-result : tie.Need-sub-result
 sub-result c = let h : c .args .k < 5 = search needs in rw (stride (c .args .k) h, sources-at (c .args .k) h) (spread-le 5 (c .args .k) (c .args .x) h)
 
--- src/bits.rt:56:1
 returns : tie.Need-returns
 unfolding spread
 returns c = let h : c .args .k < 5 = search needs in rw (stride (c .args .k) h, sources-at (c .args .k) h)

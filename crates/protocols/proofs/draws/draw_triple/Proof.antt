@@ -1,61 +1,46 @@
+-- `protocols::draws::draw_triple` meets its contract.
 use mathlib.Core.Path.{sym, _∙_}
 use Rattle.protocols.proofs.Laws.Draws.{triple-is-three}
 use borrow.Author.Needs.{needs}
 use Rattle.protocols.proofs.draws.draw_triple.Statement.{statement}
 use Rattle.protocols.proofs.draws.draw_triple.Tie as tie
-use Rattle.protocols.proofs.draws.draw_triple.Reads as reads
-use Rattle.protocols.proofs.draws.draw_triple.Lts as lts
-use Rattle.protocols.proofs.place.Place.draw.Reads as draw-reads
 
--- src/draws.rt:65:37
 draw-requires : tie.Need-draw-requires
-draw-requires c κs = search needs
+draw-requires c κs = tt
 
--- src/draws.rt:65:20
 enum-known-first : tie.Need-enum-known-first
 enum-known-first c = search needs
 
--- src/draws.rt:66:9
 enum-told : tie.Need-enum-told
 enum-told c = search needs
 
--- src/draws.rt:66:9
 returns : tie.Need-returns
 returns c = rw (← triple-is-three, sym ((c .before .before .draw) .ensures) ∙ (c .enum-told) .given .1)
 
--- src/draws.rt:68:38
 draw-requires-2 : tie.Need-draw-requires-2
-draw-requires-2 c κs = search needs
+draw-requires-2 c κs = tt
 
--- src/draws.rt:68:20
 enum-known-second : tie.Need-enum-known-second
 enum-known-second c = search needs
 
--- src/draws.rt:69:9
 enum-told-2 : tie.Need-enum-told-2
 enum-told-2 c = search needs
 
--- src/draws.rt:69:9
 returns-2 : tie.Need-returns-2
 returns-2 c = rw (← triple-is-three, sym ((c .before .before .before .before .before .before .draw) .ensures) ∙ (c .before .before .before .before .first) .given .1, sym ((c .before .before .draw2) .ensures) ∙ (c .enum-told2) .given .1)
 
--- src/draws.rt:71:37
 draw-requires-3 : tie.Need-draw-requires-3
-draw-requires-3 c κs = search needs
+draw-requires-3 c κs = tt
 
--- src/draws.rt:71:20
 enum-known-third : tie.Need-enum-known-third
 enum-known-third c = search needs
 
--- src/draws.rt:72:9
 enum-told-3 : tie.Need-enum-told-3
 enum-told-3 c = search needs
 
--- src/draws.rt:72:9
 returns-3 : tie.Need-returns-3
 returns-3 c = rw (← triple-is-three, sym ((c .before .before .before .before .before .before .before .before .before .before .draw) .ensures) ∙ (c .before .before .before .before .before .before .before .before .first) .given .1, sym ((c .before .before .before .before .before .before .draw2) .ensures) ∙ (c .before .before .before .before .second) .given .1, sym ((c .before .before .draw3) .ensures) ∙ (c .enum-told3) .given .1)
 
--- src/draws.rt:62:1
 returns-4 : tie.Need-returns-4
 returns-4 c = rw (← triple-is-three, sym ((c .before .before .before .before .before .before .before .before .before .before .before .draw) .ensures) ∙ (c .before .before .before .before .before .before .before .before .before .first) .given .1, sym ((c .before .before .before .before .before .before .before .draw2) .ensures) ∙ (c .before .before .before .before .before .second) .given .1, sym ((c .before .before .before .draw3) .ensures) ∙ (c .before .third) .given .1)
 

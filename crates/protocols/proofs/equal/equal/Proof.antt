@@ -1,3 +1,4 @@
+-- `protocols::equal::equal` meets its contract. Before round k the loop has performed the comparison and k rounds of the definition.
 use borrow.Author.Needs.{needs}
 use Prim.Native.Nat.{_+_, _-_, _≤_}
 use mathlib.Core.Path.{_≡_, sym, _∙_}
@@ -9,20 +10,6 @@ use Rattle.protocols.specs.Equal.{folds, equal, compare}
 use Rattle.protocols.proofs.Laws.Perform.{Performed, folds-begun, folds-unmasked, folds-uncompared, folds-more, folds-stopped, equal-spent, equal-ends, outcome-spent}
 use Rattle.protocols.proofs.equal.equal.Statement.{statement}
 use Rattle.protocols.proofs.equal.equal.Tie as tie
-use Rattle.protocols.proofs.equal.equal.Reads as reads
-use Rattle.protocols.proofs.equal.equal.Lts as lts
-use Rattle.protocols.proofs.bit.bit_after.Reads as bit-after-reads
-use Rattle.protocols.proofs.draws.draw_each.Reads as draw-each-reads
-use Rattle.protocols.proofs.equal.compared.Reads as compared-reads
-use Rattle.protocols.proofs.equal.folded.Reads as folded-reads
-use Rattle.protocols.proofs.local.difference.Reads as difference-reads
-use Rattle.protocols.proofs.masked.masked.Reads as masked-reads
-use Rattle.protocols.proofs.message.Sent.new.Reads as new-reads
-use Rattle.protocols.proofs.message.Sent.to_next.Reads as to-next-reads
-use Rattle.protocols.proofs.message.Sent.to_two_three.Reads as to-two-three-reads
-use Rattle.protocols.proofs.outcome.Outcome.spent.Reads as spent-reads
-use Rattle.protocols.proofs.place.Place.draw.Reads as draw-reads
-use Rattle.protocols.proofs.ring.sub.Reads as sub-reads
 
 abbrev Inv-loop : tie.InvT-loop
 Inv-loop place tape1 tape2 tape3 r2 r3 held₀ sent₀ at₀ k₀ held sent at k =
@@ -32,127 +19,98 @@ abbrev μ-loop : tie.MeasureT-loop
 μ-loop place tape1 tape2 tape3 r2 r3 held₀ sent₀ at₀ k₀ held sent at k =
     5 - k
 
--- src/equal.rt:94:39
 draw-requires : tie.Need-draw-requires Inv-loop μ-loop
-draw-requires c κs = search needs
+draw-requires c κs = tt
 
--- src/equal.rt:94:20
 enum-known-r2 : tie.Need-enum-known-r2 Inv-loop μ-loop
 enum-known-r2 c = search needs
 
--- src/equal.rt:95:9
 enum-told : tie.Need-enum-told Inv-loop μ-loop
 enum-told c = search needs
 
--- src/equal.rt:95:9
 spent-requires : tie.Need-spent-requires Inv-loop μ-loop
-spent-requires c κs = search needs
+spent-requires c κs = tt
 
--- src/equal.rt:95:9
 returns : tie.Need-returns Inv-loop μ-loop
 returns c =
     (c .spent) .ensures ∙ outcome-spent (equal 5) _ _ _ (equal-spent 5 _ _ _ 0 (omega arith) (folds-uncompared 5 _ _ _ (sym ((c .before .before .before .draw) .ensures) ∙ (c .before .enum-told) .given .1)))
 
--- src/equal.rt:97:36
 draw-each-requires : tie.Need-draw-each-requires Inv-loop μ-loop
-draw-each-requires c κs = search needs
+draw-each-requires c κs = tt
 
--- src/equal.rt:97:21
 enum-known-q : tie.Need-enum-known-q Inv-loop μ-loop
 enum-known-q c = search needs
 
--- src/equal.rt:98:9
 enum-told-2 : tie.Need-enum-told-2 Inv-loop μ-loop
 enum-told-2 c = search needs
 
--- src/equal.rt:98:9
 spent-requires-2 : tie.Need-spent-requires-2 Inv-loop μ-loop
-spent-requires-2 c κs = search needs
+spent-requires-2 c κs = tt
 
--- src/equal.rt:98:9
 returns-2 : tie.Need-returns-2 Inv-loop μ-loop
 returns-2 c =
     (c .spent2) .ensures ∙ outcome-spent (equal 5) _ _ _ (equal-spent 5 _ _ _ 0 (omega arith) (folds-unmasked 5 _ _ _ (sym ((c .before .before .before .before .before .before .before .draw) .ensures) ∙ (c .before .before .before .before .before .r2) .given .1) (sym ((c .before .before .before .draw-each) .ensures) ∙ (c .before .enum-told2) .given .1)))
 
--- src/equal.rt:100:9
 difference-requires : tie.Need-difference-requires Inv-loop μ-loop
-difference-requires c κs = search needs
+difference-requires c κs = tt
 
--- src/equal.rt:101:9
 sub-requires : tie.Need-sub-requires Inv-loop μ-loop
-sub-requires c κs = search needs
+sub-requires c κs = tt
 
--- src/equal.rt:102:9
 compared-requires : tie.Need-compared-requires Inv-loop μ-loop
-compared-requires c κs = search needs
+compared-requires c κs = tt
 
--- src/equal.rt:104:20
 new-requires : tie.Need-new-requires Inv-loop μ-loop
-new-requires c κs = search needs
+new-requires c κs = tt
 
--- src/equal.rt:104:20
 to-two-three-requires : tie.Need-to-two-three-requires Inv-loop μ-loop
-to-two-three-requires c κs = search needs
+to-two-three-requires c κs = tt
 
--- src/equal.rt:104:9
 to-next-requires : tie.Need-to-next-requires Inv-loop μ-loop
-to-next-requires c κs = search needs
+to-next-requires c κs = tt
 
--- src/equal.rt:107:5
 loop-holds : tie.Need-loop-holds Inv-loop μ-loop
 loop-holds c =
     (omega arith, λ x d. d)
 
--- src/equal.rt:108:36
 draw-each-requires-2 : tie.Need-draw-each-requires-2 Inv-loop μ-loop
-draw-each-requires-2 c κs = search needs
+draw-each-requires-2 c κs = tt
 
--- src/equal.rt:108:25
 enum-known-q-2 : tie.Need-enum-known-q-2 Inv-loop μ-loop
 enum-known-q-2 c = search needs
 
--- src/equal.rt:109:13
 enum-told-3 : tie.Need-enum-told-3 Inv-loop μ-loop
 enum-told-3 c = search needs
 
--- src/equal.rt:109:13
 spent-requires-3 : tie.Need-spent-requires-3 Inv-loop μ-loop
-spent-requires-3 c κs = search needs
+spent-requires-3 c κs = tt
 
--- src/equal.rt:109:13
 returns-3 : tie.Need-returns-3 Inv-loop μ-loop
 unfolding compare
 returns-3 c =
     let d = (c .before .before .before .before .before .loop) .inv .1 (operands (c .before .before .before .before .before .before .before .before .before .before .before .before .before .before .before .before .before .before .before .before .before .before .before .args .u) (c .before .before .before .before .before .before .before .before .before .before .before .before .before .before .before .before .before .before .before .before .before .before .before .args .v)) (folds-begun 5 (operands (c .before .before .before .before .before .before .before .before .before .before .before .before .before .before .before .before .before .before .before .before .before .before .before .args .u) (c .before .before .before .before .before .before .before .before .before .before .before .before .before .before .before .before .before .before .before .before .before .before .before .args .v)) _ _ (sym ((c .before .before .before .before .before .before .before .before .before .before .before .before .before .before .before .before .before .before .before .draw) .ensures) ∙ (c .before .before .before .before .before .before .before .before .before .before .before .before .before .before .before .before .before .r2) .given .1) _ (sym ((c .before .before .before .before .before .before .before .before .before .before .before .before .before .before .before .draw-each) .ensures) ∙ (c .before .before .before .before .before .before .before .before .before .before .before .before .before .q) .given .1) ((c .before .before .before .before .before .before .before .before .before .compared) .result) (rw ((c .before .before .before .before .before .before .before .before .before .compared) .ensures, (c .before .before .before .before .before .before .before .before .before .before .sub) .ensures, (c .before .before .before .before .before .before .before .before .before .before .before .difference) .ensures)) ((c .before .before .before .before .before .before .to-next) .result) (rw ((c .before .before .before .before .before .before .to-next) .ensures, (c .before .before .before .before .before .before .before .to-two-three) .ensures, (c .before .before .before .before .before .before .before .before .new) .ensures, (c .before .before .before .before .before .before .before .before .before .before .sub) .ensures, (c .before .before .before .before .before .before .before .before .before .before .before .difference) .ensures))) in
     (c .spent3) .ensures ∙ outcome-spent (equal 5) _ _ _ (equal-spent 5 _ _ _ ((c .before .before .before .before .before .loop) .k + 1) (omega (arith, (c .before .before .before .before .before .loop) .inv .0, (c .before .before .before .before .loop-test) .taken)) (folds-stopped 5 _ _ _ ((c .before .before .before .before .before .loop) .k) d (sym ((c .before .before .before .draw-each2) .ensures) ∙ (c .before .enum-told3) .given .1)))
 
--- src/equal.rt:111:13
 masked-requires : tie.Need-masked-requires Inv-loop μ-loop
-masked-requires c κs = search needs
+masked-requires c κs = tt
 
--- src/equal.rt:112:16
 to-next-requires-2 : tie.Need-to-next-requires-2 Inv-loop μ-loop
-to-next-requires-2 c κs = search needs
+to-next-requires-2 c κs = tt
 
--- src/equal.rt:112:9
 to-next-requires-3 : tie.Need-to-next-requires-3 Inv-loop μ-loop
-to-next-requires-3 c κs = search needs
+to-next-requires-3 c κs = tt
 
--- src/equal.rt:113:9
 folded-requires : tie.Need-folded-requires Inv-loop μ-loop
 folded-requires c κs = (c .before .before .before .before .before .before .before .loop-test) .taken
 
--- src/equal.rt:115:9
 add-k : tie.Need-add-k Inv-loop μ-loop
 add-k c =
     omega (arith, (c .before .before .before .before .before .before .before .before .before .loop) .inv .0, (c .before .before .before .before .before .before .before .before .loop-test) .taken)
 
--- src/equal.rt:107:5
 loop-less : tie.Need-loop-less Inv-loop μ-loop
 loop-less c =
     omega (arith, (c .before .before .before .before .before .before .before .before .before .loop) .inv .0, (c .before .before .before .before .before .before .before .before .loop-test) .taken)
 
--- src/equal.rt:107:5
 loop-again : tie.Need-loop-again Inv-loop μ-loop
 loop-again c = (
   omega (arith, (c .before .before .before .before .before .before .before .before .before .loop) .inv .0, (c .before .before .before .before .before .before .before .before .loop-test) .taken),
@@ -160,11 +118,9 @@ loop-again c = (
       (folds-more 5 x _ _ ((c .before .before .before .before .before .before .before .before .before .loop) .k) ((c .before .before .before .before .before .before .before .before .before .loop) .inv .1 x d) _ (sym ((c .before .before .before .before .before .before .before .draw-each2) .ensures) ∙ (c .before .before .before .before .before .q2) .given .1) ((c .before .to-next3) .result) (rw ((c .before .to-next3) .ensures, (c .before .before .to-next2) .ensures, (c .before .before .before .masked) .ensures))),
 )
 
--- src/equal.rt:117:5
 bit-after-requires : tie.Need-bit-after-requires Inv-loop μ-loop
-bit-after-requires c κs = search needs
+bit-after-requires c κs = tt
 
--- src/equal.rt:84:1
 returns-4 : tie.Need-returns-4 Inv-loop μ-loop
 unfolding compare
 returns-4 c =

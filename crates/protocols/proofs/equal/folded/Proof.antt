@@ -1,23 +1,17 @@
+-- `protocols::equal::folded` meets its contract.
 use borrow.Author.Needs.{needs}
 use Rattle.protocols.proofs.equal.folded.Statement.{statement}
 use Rattle.protocols.proofs.equal.folded.Tie as tie
-use Rattle.protocols.proofs.equal.folded.Reads as reads
-use Rattle.protocols.proofs.equal.folded.Lts as lts
-use Rattle.protocols.proofs.equal.fold_share.Reads as fold-share-reads
 
--- src/equal.rt:64:18
 fold-share-requires : tie.Need-fold-share-requires
 fold-share-requires c κs = search needs
 
--- src/equal.rt:65:18
 fold-share-requires-2 : tie.Need-fold-share-requires-2
 fold-share-requires-2 c κs = search needs
 
--- src/equal.rt:66:20
 fold-share-requires-3 : tie.Need-fold-share-requires-3
 fold-share-requires-3 c κs = search needs
 
--- src/equal.rt:58:1
 returns : tie.Need-returns
 returns c = rw ((c .before .before .fold-share) .ensures, (c .before .fold-share2) .ensures, (c .fold-share3) .ensures)
 

@@ -1,71 +1,50 @@
+-- `protocols::multiply::multiply` meets its contract.
 use Rattle.protocols.proofs.Laws.Messages.{append-sent}
 use mathlib.Core.Path.{sym, _∙_}
 use Rattle.protocols.proofs.Laws.Perform.{multiply-performs}
 use borrow.Author.Needs.{needs}
 use Rattle.protocols.proofs.multiply.multiply.Statement.{statement}
 use Rattle.protocols.proofs.multiply.multiply.Tie as tie
-use Rattle.protocols.proofs.multiply.multiply.Reads as reads
-use Rattle.protocols.proofs.multiply.multiply.Lts as lts
-use Rattle.protocols.proofs.draws.draw_pairs.Reads as draw-pairs-reads
-use Rattle.protocols.proofs.message.Sent.new.Reads as new-reads
-use Rattle.protocols.proofs.message.Sent.to_next.Reads as to-next-reads
-use Rattle.protocols.proofs.multiply.product.Reads as product-reads
-use Rattle.protocols.proofs.outcome.Outcome.spent.Reads as spent-reads
-use Rattle.protocols.proofs.reshare.fresh.Reads as fresh-reads
 
--- src/multiply.rt:50:36
 draw-pairs-requires : tie.Need-draw-pairs-requires
-draw-pairs-requires c κs = search needs
+draw-pairs-requires c κs = tt
 
--- src/multiply.rt:50:22
 enum-known-r : tie.Need-enum-known-r
 enum-known-r c = search needs
 
--- src/multiply.rt:51:9
 enum-told : tie.Need-enum-told
 enum-told c = search needs
 
--- src/multiply.rt:51:9
 spent-requires : tie.Need-spent-requires
-spent-requires c κs = search needs
+spent-requires c κs = tt
 
--- src/multiply.rt:51:9
 returns : tie.Need-returns
 returns c = rw (multiply-performs, sym ((c .before .before .before .draw-pairs) .ensures) ∙ (c .before .enum-told) .given .1) ((c .spent) .ensures)
 
--- src/multiply.rt:53:9
 fresh-requires : tie.Need-fresh-requires
-fresh-requires c κs = search needs
+fresh-requires c κs = tt
 
--- src/multiply.rt:54:9
 fresh-requires-2 : tie.Need-fresh-requires-2
-fresh-requires-2 c κs = search needs
+fresh-requires-2 c κs = tt
 
--- src/multiply.rt:57:17
 product-requires : tie.Need-product-requires
-product-requires c κs = search needs
+product-requires c κs = tt
 
--- src/multiply.rt:59:15
 new-requires : tie.Need-new-requires
-new-requires c κs = search needs
+new-requires c κs = tt
 
--- src/multiply.rt:59:15
 to-next-requires : tie.Need-to-next-requires
-to-next-requires c κs = search needs
+to-next-requires c κs = tt
 
--- src/multiply.rt:59:15
 to-next-requires-2 : tie.Need-to-next-requires-2
-to-next-requires-2 c κs = search needs
+to-next-requires-2 c κs = tt
 
--- src/multiply.rt:59:15
 to-next-requires-3 : tie.Need-to-next-requires-3
-to-next-requires-3 c κs = search needs
+to-next-requires-3 c κs = tt
 
--- src/multiply.rt:59:15
 to-next-requires-4 : tie.Need-to-next-requires-4
-to-next-requires-4 c κs = search needs
+to-next-requires-4 c κs = tt
 
--- src/multiply.rt:40:1
 returns-2 : tie.Need-returns-2
 returns-2 c = rw (multiply-performs, sym ((c .before .before .before .before .before .before .before .before .before .before .before .draw-pairs) .ensures) ∙ (c .before .before .before .before .before .before .before .before .before .r) .given .1, (c .to-next4) .ensures, (c .before .to-next3) .ensures, (c .before .before .to-next2) .ensures, (c .before .before .before .to-next) .ensures, (c .before .before .before .before .new) .ensures, (c .before .before .before .before .before .product) .ensures, (c .before .before .before .before .before .before .before .fresh) .ensures, (c .before .before .before .before .before .before .fresh2) .ensures) (simp append-sent)
 

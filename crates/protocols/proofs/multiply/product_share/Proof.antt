@@ -1,32 +1,22 @@
-use borrow.Author.Needs.{needs}
+-- `protocols::multiply::product_share` meets its contract.
 use Rattle.protocols.proofs.multiply.product_share.Statement.{statement}
 use Rattle.protocols.proofs.multiply.product_share.Tie as tie
-use Rattle.protocols.proofs.multiply.product_share.Reads as reads
-use Rattle.protocols.proofs.multiply.product_share.Lts as lts
-use Rattle.protocols.proofs.ring.add.Reads as add-reads
-use Rattle.protocols.proofs.ring.mul.Reads as mul-reads
 
--- src/multiply.rt:23:25
 mul-requires : tie.Need-mul-requires
-mul-requires c κs = search needs
+mul-requires c κs = tt
 
--- src/multiply.rt:23:42
 mul-requires-2 : tie.Need-mul-requires-2
-mul-requires-2 c κs = search needs
+mul-requires-2 c κs = tt
 
--- src/multiply.rt:23:15
 add-requires : tie.Need-add-requires
-add-requires c κs = search needs
+add-requires c κs = tt
 
--- src/multiply.rt:23:60
 mul-requires-3 : tie.Need-mul-requires-3
-mul-requires-3 c κs = search needs
+mul-requires-3 c κs = tt
 
--- src/multiply.rt:23:5
 add-requires-2 : tie.Need-add-requires-2
-add-requires-2 c κs = search needs
+add-requires-2 c κs = tt
 
--- src/multiply.rt:20:1
 returns : tie.Need-returns
 returns c = rw ((c .add2) .ensures, (c .before .before .add) .ensures, (c .before .before .before .before .mul) .ensures, (c .before .before .before .mul2) .ensures, (c .before .mul3) .ensures)
 

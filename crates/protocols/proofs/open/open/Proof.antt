@@ -1,55 +1,38 @@
+-- `protocols::open::open` meets its contract.
 use Rattle.protocols.proofs.Laws.Messages.{append-sent}
 use mathlib.Core.Path.{sym, _∙_}
 use Rattle.protocols.proofs.Laws.Perform.{opening-performs}
 use borrow.Author.Needs.{needs}
 use Rattle.protocols.proofs.open.open.Statement.{statement}
 use Rattle.protocols.proofs.open.open.Tie as tie
-use Rattle.protocols.proofs.open.open.Reads as reads
-use Rattle.protocols.proofs.open.open.Lts as lts
-use Rattle.protocols.proofs.draws.draw_each.Reads as draw-each-reads
-use Rattle.protocols.proofs.message.Sent.new.Reads as new-reads
-use Rattle.protocols.proofs.message.Sent.to_controller.Reads as to-controller-reads
-use Rattle.protocols.proofs.message.Sent.to_next.Reads as to-next-reads
-use Rattle.protocols.proofs.outcome.Outcome.spent.Reads as spent-reads
-use Rattle.protocols.proofs.reshare.fresh.Reads as fresh-reads
 
--- src/open.rt:21:32
 draw-each-requires : tie.Need-draw-each-requires
-draw-each-requires c κs = search needs
+draw-each-requires c κs = tt
 
--- src/open.rt:21:21
 enum-known-r : tie.Need-enum-known-r
 enum-known-r c = search needs
 
--- src/open.rt:22:9
 enum-told : tie.Need-enum-told
 enum-told c = search needs
 
--- src/open.rt:22:9
 spent-requires : tie.Need-spent-requires
-spent-requires c κs = search needs
+spent-requires c κs = tt
 
--- src/open.rt:22:9
 returns : tie.Need-returns
 returns c = rw (opening-performs, sym ((c .before .before .before .draw-each) .ensures) ∙ (c .before .enum-told) .given .1) ((c .spent) .ensures)
 
--- src/open.rt:24:9
 fresh-requires : tie.Need-fresh-requires
-fresh-requires c κs = search needs
+fresh-requires c κs = tt
 
--- src/open.rt:29:15
 new-requires : tie.Need-new-requires
-new-requires c κs = search needs
+new-requires c κs = tt
 
--- src/open.rt:29:15
 to-next-requires : tie.Need-to-next-requires
-to-next-requires c κs = search needs
+to-next-requires c κs = tt
 
--- src/open.rt:29:15
 to-controller-requires : tie.Need-to-controller-requires
-to-controller-requires c κs = search needs
+to-controller-requires c κs = tt
 
--- src/open.rt:18:1
 returns-2 : tie.Need-returns-2
 returns-2 c = rw (opening-performs, sym ((c .before .before .before .before .before .before .before .draw-each) .ensures) ∙ (c .before .before .before .before .before .r) .given .1, (c .to-controller) .ensures, (c .before .to-next) .ensures, (c .before .before .new) .ensures, (c .before .before .before .fresh) .ensures) (simp append-sent)
 

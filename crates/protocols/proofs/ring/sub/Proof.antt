@@ -1,18 +1,14 @@
+-- `protocols::ring::sub` meets its contract.
 use Rattle.protocols.proofs.Laws.Ring.{sub-unique}
 use lib.Pow.{pow-pos}
 use Prim.Native.Nat.{_^_}
 use borrow.Author.Needs.{needs}
 use Rattle.protocols.proofs.ring.sub.Statement.{statement}
 use Rattle.protocols.proofs.ring.sub.Tie as tie
-use Rattle.protocols.proofs.ring.sub.Reads as reads
-use Rattle.protocols.proofs.ring.sub.Lts as lts
-use Rattle.std.proofs.num.wrapping_sub_u32.Reads as wrapping-sub-u32-reads
 
--- src/ring.rt:14:5
 wrapping-sub-u32-requires : tie.Need-wrapping-sub-u32-requires
-wrapping-sub-u32-requires c κs = search needs
+wrapping-sub-u32-requires c κs = tt
 
--- src/ring.rt:11:1
 returns : tie.Need-returns
 returns c = sub-unique (2 ^ 32) (pow-pos 32) _ _ _ (search needs) (search needs) ((c .wrapping-sub-u32) .ensures)
 

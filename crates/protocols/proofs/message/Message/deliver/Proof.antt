@@ -1,6 +1,6 @@
+-- `protocols::message::Message::deliver` meets its contract. Before word i the tail has the first i words pasted in.
 use Prim.Native.Nat.{_≤_, _-_}
 use mathlib.Core.Path.{_≡_, refl}
-use mathlib.Core.Bool.{_&&_}
 use native.Mathlib.Omega.{arith}
 use borrow.Author.Needs.{needs}
 use borrow.Author.Tests.{le-leb, lt-leb}
@@ -11,8 +11,6 @@ use Rattle.protocols.specs.Outcome.{delivered}
 use Rattle.protocols.proofs.Laws.Messages.{paste-word, paste-sets}
 use Rattle.protocols.proofs.message.Message.deliver.Statement.{statement}
 use Rattle.protocols.proofs.message.Message.deliver.Tie as tie
-use Rattle.protocols.proofs.message.Message.deliver.Reads as reads
-use Rattle.protocols.proofs.message.Message.deliver.Lts as lts
 
 abbrev Inv-loop : tie.InvT-loop
 Inv-loop tail₀ count words i₀ tail i = (i ≤ count) × (tail ≡ paste tail₀ 0 words i) × (length tail ≡ length tail₀) × (count ≤ length tail₀) × (count ≤ length words)

@@ -1,11 +1,9 @@
+-- `protocols::message::Message::new` meets its contract.
 use mathlib.Core.Path.{refl}
 use Rattle.protocols.specs.Outcome.{message, pushes}
 use Rattle.protocols.proofs.message.Message.new.Statement.{statement}
 use Rattle.protocols.proofs.message.Message.new.Tie as tie
-use Rattle.protocols.proofs.message.Message.new.Reads as reads
-use Rattle.protocols.proofs.message.Message.new.Lts as lts
 
--- src/message.rt:24:5
 returns : tie.Need-returns
 unfolding message pushes
 returns c = refl

@@ -1,24 +1,17 @@
+-- `protocols::message::Sent::to_controller` meets its contract.
 use Rattle.protocols.specs.Outcome.{append, pushes}
-use borrow.Author.Needs.{needs}
 use Rattle.protocols.proofs.message.Sent.to_controller.Statement.{statement}
 use Rattle.protocols.proofs.message.Sent.to_controller.Tie as tie
-use Rattle.protocols.proofs.message.Sent.to_controller.Reads as reads
-use Rattle.protocols.proofs.message.Sent.to_controller.Lts as lts
-use Rattle.protocols.proofs.message.Message.push.Reads as push-reads
 
--- src/message.rt:140:25
 push-requires : tie.Need-push-requires
-push-requires c κs = search needs
+push-requires c κs = tt
 
--- src/message.rt:140:25
 push-requires-2 : tie.Need-push-requires-2
-push-requires-2 c κs = search needs
+push-requires-2 c κs = tt
 
--- src/message.rt:140:25
 push-requires-3 : tie.Need-push-requires-3
-push-requires-3 c κs = search needs
+push-requires-3 c κs = tt
 
--- src/message.rt:129:5
 returns : tie.Need-returns
 unfolding append pushes
 returns c = rw ((c .push3) .ensures, (c .before .push2) .ensures, (c .before .before .push) .ensures)

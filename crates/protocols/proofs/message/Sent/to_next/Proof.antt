@@ -1,24 +1,17 @@
+-- `protocols::message::Sent::to_next` meets its contract.
 use Rattle.protocols.specs.Outcome.{append, pushes}
-use borrow.Author.Needs.{needs}
 use Rattle.protocols.proofs.message.Sent.to_next.Statement.{statement}
 use Rattle.protocols.proofs.message.Sent.to_next.Tie as tie
-use Rattle.protocols.proofs.message.Sent.to_next.Reads as reads
-use Rattle.protocols.proofs.message.Sent.to_next.Lts as lts
-use Rattle.protocols.proofs.message.Message.push.Reads as push-reads
 
--- src/message.rt:89:18
 push-requires : tie.Need-push-requires
-push-requires c κs = search needs
+push-requires c κs = tt
 
--- src/message.rt:90:18
 push-requires-2 : tie.Need-push-requires-2
-push-requires-2 c κs = search needs
+push-requires-2 c κs = tt
 
--- src/message.rt:91:20
 push-requires-3 : tie.Need-push-requires-3
-push-requires-3 c κs = search needs
+push-requires-3 c κs = tt
 
--- src/message.rt:81:5
 returns : tie.Need-returns
 unfolding append pushes
 returns c = rw ((c .before .before .push) .ensures, (c .before .push2) .ensures, (c .push3) .ensures)

@@ -1,15 +1,10 @@
-use borrow.Author.Needs.{needs}
+-- `protocols::outcome::Outcome::spent` meets its contract.
 use Rattle.protocols.proofs.outcome.Outcome.spent.Statement.{statement}
 use Rattle.protocols.proofs.outcome.Outcome.spent.Tie as tie
-use Rattle.protocols.proofs.outcome.Outcome.spent.Reads as reads
-use Rattle.protocols.proofs.outcome.Outcome.spent.Lts as lts
-use Rattle.protocols.proofs.message.Sent.new.Reads as new-reads
 
--- src/outcome.rt:31:19
 new-requires : tie.Need-new-requires
-new-requires c κs = search needs
+new-requires c κs = tt
 
--- src/outcome.rt:20:5
 returns : tie.Need-returns
 returns c = rw ((c .new) .ensures)
 

@@ -1,38 +1,29 @@
+-- `protocols::place::Drawn::with` meets its contract.
 use borrow.Author.Needs.{needs}
 use Rattle.protocols.proofs.place.Drawn.with.Statement.{statement}
 use Rattle.protocols.proofs.place.Drawn.with.Tie as tie
-use Rattle.protocols.proofs.place.Drawn.with.Reads as reads
-use Rattle.protocols.proofs.place.Drawn.with.Lts as lts
 
--- src/place.rt:61:32
 enum-told : tie.Need-enum-told
 enum-told c = search needs
 
--- src/place.rt:62:27
 enum-told-2 : tie.Need-enum-told-2
 enum-told-2 c = search needs
 
--- src/place.rt:63:27
 enum-told-3 : tie.Need-enum-told-3
 enum-told-3 c = search needs
 
--- src/place.rt:64:29
 enum-told-4 : tie.Need-enum-told-4
 enum-told-4 c = search needs
 
--- src/place.rt:57:5
 returns : tie.Need-returns
 returns c = rw ((c .enum-told) .given .1)
 
--- src/place.rt:57:5
 returns-2 : tie.Need-returns-2
 returns-2 c = rw ((c .enum-told2) .given .1)
 
--- src/place.rt:57:5
 returns-3 : tie.Need-returns-3
 returns-3 c = rw ((c .enum-told3) .given .1)
 
--- src/place.rt:57:5
 returns-4 : tie.Need-returns-4
 returns-4 c = rw ((c .enum-told4) .given .1)
 
