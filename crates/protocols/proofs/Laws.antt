@@ -5,6 +5,7 @@ pub mod Blocks
 pub mod Messages
 pub mod Draws
 pub mod Perform
+pub mod Lent
 pub mod Source
 pub mod Shared
 pub mod Carry

@@ -1,5 +1,5 @@
 -- Bits: a ring value as a bit word. (000, algorithm 4, lines 1 to 27; 01, The steps) On words of 2 ^ n bits, in n rounds.
-use Prim.Native.Nat.{ℕ, zero, suc, _+_, _-_, _*_, _/_, _^_}
+use Prim.Native.Nat.{ℕ, suc, _+_, _-_, _*_, _/_, _^_}
 use lib.Bits.{bitXor, bitAnd}
 use Rattle.protocols.specs.declared.shares.Shares.{Shares}
 use Rattle.protocols.specs.declared.bits.Dealt.{Dealt}
@@ -7,7 +7,7 @@ use Rattle.protocols.specs.declared.bits.Held.{Held}
 use Rattle.protocols.specs.Word.{width, modulus, add, sub, bitAt, ofBits, up, choose}
 use Rattle.protocols.specs.Shares.{one, prev, at, each, shares}
 use Rattle.protocols.specs.Place.{Tapes, counts, word, words, to-next, to-two-three, _followed-by_}
-use Rattle.protocols.specs.Protocol.{Protocol, locally, _then_}
+use Rattle.protocols.specs.Protocol.{Protocol, locally, _then_, repeated}
 use Rattle.protocols.specs.Masked.{masked, andShare}
 
 -- ---- lines 1 to 3 and 6 to 11: the dealing
@@ -58,16 +58,22 @@ exchange = record {
 unfoldable pub source : ℕ → ℕ → ℕ
 source k j = 2 ^ k + 2 ^ suc k * (j / 2 ^ suc k) - 1
 
--- line 20: 'Every position with bit k of its number set takes s = s xor (p and s′)', on a miner's own shares p, s and the previous miner's
-unfoldable pub roundS : ℕ → ℕ → ℕ → ℕ → ℕ → ℕ → ℕ
-roundS w k p p′ s s′ =
-    ofBits w (λ j. choose (bitAt j k) (bitAt s j)
-    (bitXor (bitAt s j) (andShare (bitAt p j) (bitAt p′ j) (bitAt s (source k j)) (bitAt s′ (source k j)))))
+-- position j after round k, on a miner's own masked shares p, s and the previous miner's p′, s′
+-- line 20: 'Every position with bit k of its number set takes s = s xor (p and s′)'
+abbrev pub roundSAt : ℕ → ℕ → ℕ → ℕ → ℕ → ℕ → ℕ
+roundSAt k p p′ s s′ j =
+    choose (bitAt j k) (bitAt s j) (bitXor (bitAt s j) (andShare (bitAt p j) (bitAt p′ j) (bitAt s (source k j)) (bitAt s′ (source k j))))
 
 -- line 21: 'p = p and p′'
+abbrev pub roundPAt : ℕ → ℕ → ℕ → ℕ → ℕ
+roundPAt k p p′ j = choose (bitAt j k) (bitAt p j) (andShare (bitAt p j) (bitAt p′ j) (bitAt p (source k j)) (bitAt p′ (source k j)))
+
+-- all w positions
+unfoldable pub roundS : ℕ → ℕ → ℕ → ℕ → ℕ → ℕ → ℕ
+roundS w k p p′ s s′ = ofBits w (roundSAt k p p′ s s′)
+
 unfoldable pub roundP : ℕ → ℕ → ℕ → ℕ → ℕ
-roundP w k p p′ =
-    ofBits w (λ j. choose (bitAt j k) (bitAt p j) (andShare (bitAt p j) (bitAt p′ j) (bitAt p (source k j)) (bitAt p′ (source k j))))
+roundP w k p p′ = ofBits w (roundPAt k p p′)
 
 -- lines 18 to 21 on every miner's masked shares p, s, with the masks of the next round
 abbrev pub carried : ℕ → ℕ → Shares → Shares → Shares → Shares → Shares → Held
@@ -90,8 +96,7 @@ round n k = record {
 
 -- the dealing and the first k rounds
 unfoldable pub rounds : ℕ → ℕ → Protocol Shares Held
-rounds n zero = deal n then exchange
-rounds n (suc k) = rounds n k then round n k
+rounds n = repeated (deal n then exchange) (round n)
 
 -- ---- lines 23 to 27: 's shifted up by one, combined by exclusive or with 0, v xor R2, R3'
 

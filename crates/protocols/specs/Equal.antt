@@ -1,11 +1,11 @@
 -- Equal: 1 if two ring values are equal, else 0. (000, algorithm 5; 01, The steps) On words of 2 ^ n bits, in n rounds.
-use Prim.Native.Nat.{ℕ, zero, suc, _+_, _-_, _%_, _^_}
+use Prim.Native.Nat.{ℕ, suc, _+_, _-_, _%_, _^_}
 use Rattle.protocols.specs.declared.shares.Shares.{Shares}
 use Rattle.protocols.specs.declared.equal.Folding.{Folding}
 use Rattle.protocols.specs.Word.{width, modulus, add, sub, bitAt, ofBits, choose}
 use Rattle.protocols.specs.Shares.{one, prev, at, each, shares, Operands}
 use Rattle.protocols.specs.Place.{Tapes, counts, word, words, to-next, to-two-three, _followed-by_}
-use Rattle.protocols.specs.Protocol.{Protocol, locally, _then_}
+use Rattle.protocols.specs.Protocol.{Protocol, locally, _then_, repeated}
 use Rattle.protocols.specs.Local.{difference}
 use Rattle.protocols.specs.Masked.{masked, andShare}
 use Rattle.protocols.specs.Bit.{bit}
@@ -37,10 +37,14 @@ begin = record { draws = counts 0 1 1 1; result = λ p t. record { p = p; q = wo
 
 -- ---- lines 11 to 16: round k
 
+-- position j after round k, on a miner's own masked share p and the previous miner's p′:
 -- 'position 2^(k+1) m takes the "and" with position 2^(k+1) m + 2^k'; the others 'keep their masked shares'
+abbrev pub foldAt : ℕ → ℕ → ℕ → ℕ → ℕ
+foldAt k p p′ j = choose (j % 2 ^ suc k) (andShare (bitAt p j) (bitAt p′ j) (bitAt p (j + 2 ^ k)) (bitAt p′ (j + 2 ^ k))) (bitAt p j)
+
+-- all w positions
 unfoldable pub foldShare : ℕ → ℕ → ℕ → ℕ → ℕ
-foldShare w k p p′ =
-    ofBits w (λ j. choose (j % 2 ^ suc k) (andShare (bitAt p j) (bitAt p′ j) (bitAt p (j + 2 ^ k)) (bitAt p′ (j + 2 ^ k))) (bitAt p j))
+foldShare w k p p′ = ofBits w (foldAt k p p′)
 
 abbrev pub folded : ℕ → ℕ → Shares → Shares → Folding
 folded w k p q = record { p = each (λ i. foldShare w k (at i p) (at (prev i) p)); q = q }
@@ -55,8 +59,7 @@ fold n k = record {
 
 -- the comparison and the first k rounds
 unfoldable pub folds : ℕ → ℕ → Protocol Operands Folding
-folds n zero = compare n then begin
-folds n (suc k) = folds n k then fold n k
+folds n = repeated (compare n then begin) (fold n)
 
 -- line 18: 'Then Bit on position 0'
 unfoldable pub equal : ℕ → Protocol Operands Shares

@@ -143,9 +143,12 @@ draw i l p = cond (ltb (count i (p .drawn)) (length l)) (Word (getD l (count i (
 abbrev pub every : (Party → Bool) → Bool
 every f = f Provider && (f One && (f Two && f Three))
 
--- every tape has n words left at the place
+-- a tape has the words left at the place, and so has every tape
+abbrev pub has : Drawn → Place → Tapes → Party → Bool
+has n p t i = leb (count i n) (length (tape i t) - count i (p .drawn))
+
 unfoldable pub enough : Drawn → Place → Tapes → Bool
-enough n p t = every (λ i. leb (count i n) (length (tape i t) - count i (p .drawn)))
+enough n p t = every (has n p t)
 
 -- the next n words of each tape
 unfoldable pub block : Drawn → Place → Tapes → Tapes

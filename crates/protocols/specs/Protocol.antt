@@ -1,4 +1,5 @@
 -- A protocol, or a part of one: what it draws, what the miners then hold, and what each party receives.
+use Prim.Native.Nat.{ℕ, zero, suc}
 use mathlib.Core.Bool.{cond}
 use Rattle.protocols.specs.declared.place.Drawn.{Drawn}
 use Rattle.protocols.specs.declared.place.Place.{Place}
@@ -22,6 +23,11 @@ _then_ f g = record {
   result = λ s b. g .result (f .result s (cut (f .draws) b)) (rest (f .draws) b);
   received = λ s b. f .received s (cut (f .draws) b) followed-by g .received (f .result s (cut (f .draws) b)) (rest (f .draws) b);
 }
+
+-- f, and then the first k of the rounds g
+abbrev pub repeated : {S T : Type 0} → Protocol S T → (ℕ → Protocol T T) → ℕ → Protocol S T
+repeated f g zero = f
+repeated f g (suc k) = repeated f g k then g k
 
 -- ---- a protocol on lent tapes, from a place
 

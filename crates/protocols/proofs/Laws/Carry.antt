@@ -9,9 +9,9 @@ use lib.Arith.{digits-mod, digits-div}
 use lib.Pow.{pow-pos, split, mod-pow-add}
 use lib.Bits.{bitXor, bitAnd, xor-lt, xor-self, xor-zero-r, and-zero-r, xor-add-and, xor-disjoint}
 use Rattle.protocols.specs.Word.{width, modulus, bitAt, add, up}
-use Rattle.protocols.specs.Bits.{source, roundS, roundP}
+use Rattle.protocols.specs.Bits.{roundSAt, roundPAt, source, roundS, roundP}
 use Rattle.protocols.proofs.Laws.Bitwise.{bit-lt, bit-0, bit-suc, bit-mod, clear-or-set, bitAt-xor, bitAt-and, ext, xor-assoc, and-assoc, and-left-comm, and-twice, and-xor, xor-and}
-use Rattle.protocols.proofs.Laws.Shared.{roundSAt, roundPAt, bit-roundS, bit-roundP, and-share-zero, up-lt}
+use Rattle.protocols.proofs.Laws.Shared.{bit-roundS, bit-roundP, and-share-zero, up-lt}
 use Rattle.protocols.proofs.Laws.Source.{start, start-clear, start-set, suc-source, start-source, source-lt}
 
 -- ---- the carry into position j of a sum

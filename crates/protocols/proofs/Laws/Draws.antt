@@ -28,7 +28,7 @@ use Rattle.protocols.specs.declared.draws.Double.the-variants as double
 use Rattle.protocols.specs.Shares.{one, shares}
 use Rattle.protocols.proofs.Laws.Blocks.{tapes-ext}
 use Rattle.protocols.specs.Draws.{drawEach, drawPairs, drawTriple, drawDouble}
-use Rattle.protocols.specs.Place.{Tapes, tape, counts, count, plus, cut, rest, advance, draw, every, enough, block}
+use Rattle.protocols.specs.Place.{Tapes, tape, counts, count, plus, cut, rest, advance, draw, every, has, enough, block}
 
 -- ---- tests of every party
 
@@ -63,16 +63,12 @@ every-same f g h = rw (h Provider, h One, h Two, h Three)
 every-and : (f g : Party → Bool) → every (λ i. f i && g i) ≡ every f && every g
 every-and f g = and-pairs (f Provider) (f One) (f Two) (f Three) (g Provider) (g One) (g Two) (g Three)
 
--- the words that a party needs are left
-has : Drawn → Place → Tapes → Party → Bool
-has n p t i = leb (count i n) (length (tape i t) - count i (p .drawn))
-
 pub enough-true : (n : Drawn) (p : Place) (t : Tapes) → ((i : Party) → count i n ≤ length (tape i t) - count i (p .drawn)) → enough n p t ≡ true
-unfolding enough has
+unfolding enough
 enough-true n p t h = every-true (has n p t) (λ i. le-leb (count i n) (length (tape i t) - count i (p .drawn)) (h i))
 
 pub enough-false : (n : Drawn) (p : Place) (t : Tapes) (i : Party) → length (tape i t) - count i (p .drawn) < count i n → enough n p t ≡ false
-unfolding enough has
+unfolding enough
 enough-false n p t i h = every-false (has n p t) i (lt-leb (count i n) (length (tape i t) - count i (p .drawn)) h)
 
 -- ---- tapes that are not drawn from
@@ -82,7 +78,7 @@ abbrev pub Agree : Drawn → Tapes → Tapes → Type 0
 Agree n t t′ = (i : Party) → 0 < count i n → tape i t ≡ tape i t′
 
 pub enough-agree : (n : Drawn) (p : Place) (t t′ : Tapes) → Agree n t t′ → enough n p t ≡ enough n p t′
-unfolding enough has
+unfolding enough
 enough-agree n p t t′ h = every-same (has n p t) (has n p t′) (λ i. go i (count i n) refl)
   where
     go : (i : Party) (k : ℕ) → count i n ≡ k → has n p t i ≡ has n p t′ i
@@ -114,7 +110,7 @@ leb-plus a b l d = go (leb a (l - d)) refl (leb b (l - (d + a))) refl
     go true e true f = le-leb (a + b) (l - d) (omega (arith, leb-true a (l - d) e, leb-true b (l - (d + a)) f))
 
 pub enough-plus : (n k : Drawn) (p : Place) (t : Tapes) → enough (plus n k) p t ≡ enough n p t && enough k (advance p n) t
-unfolding enough has
+unfolding enough
 enough-plus n k p t =
     every-same (has (plus n k) p t) (λ i. has n p t i && has k (advance p n) t i) each ∙ every-and (has n p t) (has k (advance p n) t)
   where

@@ -10,8 +10,8 @@ use Rattle.protocols.specs.Word.{bitAt, ofBits, up, choose}
 use Rattle.protocols.specs.Shares.{Miner, one, two, three, prev, at, each, xorOf, AreWords}
 use Rattle.protocols.specs.Masked.{masked, andShare}
 use Rattle.protocols.specs.Bit.{bitsAt}
-use Rattle.protocols.specs.Bits.{source, roundS, roundP, joined}
-use Rattle.protocols.specs.Equal.{foldShare}
+use Rattle.protocols.specs.Bits.{roundSAt, roundPAt, source, roundS, roundP, joined}
+use Rattle.protocols.specs.Equal.{foldAt, foldShare}
 use Rattle.protocols.proofs.Laws.Bitwise.{bit-lt, bit-zero, choose-lt, bitAt-xor, bitAt-and, xor-cancel-l, and-xor, xor-and, xor·ac, ofBits-lt, bit-of, xor-ofBits}
 
 -- ---- a miner's share of an 'and'
@@ -83,17 +83,6 @@ xor-positions w f g h e =
     ∙ ap (ofBits w) (fun-ext e)
 
 -- ---- a round, position by position
-
-abbrev pub roundSAt : ℕ → ℕ → ℕ → ℕ → ℕ → ℕ → ℕ
-roundSAt k p p′ s s′ j =
-    choose (bitAt j k) (bitAt s j)
-    (bitXor (bitAt s j) (andShare (bitAt p j) (bitAt p′ j) (bitAt s (source k j)) (bitAt s′ (source k j))))
-
-abbrev pub roundPAt : ℕ → ℕ → ℕ → ℕ → ℕ
-roundPAt k p p′ j = choose (bitAt j k) (bitAt p j) (andShare (bitAt p j) (bitAt p′ j) (bitAt p (source k j)) (bitAt p′ (source k j)))
-
-abbrev pub foldAt : ℕ → ℕ → ℕ → ℕ → ℕ
-foldAt k p p′ j = choose (j % 2 ^ suc k) (andShare (bitAt p j) (bitAt p′ j) (bitAt p (j + 2 ^ k)) (bitAt p′ (j + 2 ^ k))) (bitAt p j)
 
 and-bits-lt : (p p′ s s′ i j : ℕ) → andShare (bitAt p i) (bitAt p′ i) (bitAt s j) (bitAt s′ j) < 2
 and-bits-lt p p′ s s′ i j = and-share-lt 1 (bitAt p i) (bitAt p′ i) (bitAt s j) (bitAt s′ j) (bit-lt s j) (bit-lt s′ j)

@@ -11,12 +11,12 @@ use lib.Pow.{pow-pos, pow-add, pow-mono, pow-lt, split, ones-lt, suc-ones}
 use lib.Bits.{bitXor, bitAnd, xor-lt, xor-zero-r, and-block, and-high, and-mask, and-le-r, and-zero-r}
 use Rattle.protocols.specs.Word.{width, modulus, bitAt, ofBits, choose}
 use Rattle.protocols.specs.Masked.{andShare}
-use Rattle.protocols.specs.Bits.{source, roundS, roundP}
-use Rattle.protocols.specs.Equal.{foldShare}
+use Rattle.protocols.specs.Bits.{roundSAt, roundPAt, source, roundS, roundP}
+use Rattle.protocols.specs.Equal.{foldAt, foldShare}
 use Rattle.protocols.specs.WordForm.{sourcesIn, sources, clear, spread, wordS, wordP, heads, others, wordFold}
 use Rattle.protocols.specs.Claims.{WordForms}
 use Rattle.protocols.proofs.Laws.Bitwise.{by-bit, bit-lt, bit-zero, choose-lt, bit-high, bit-low, bit-top, bit-shr, bit-mod, bit-of, bit-ones, bitAt-xor, bitAt-and, ofBits-lt, ext}
-use Rattle.protocols.proofs.Laws.Shared.{and-share-lt, bitAt-and-share, roundSAt, roundSAt-lt, roundPAt, roundPAt-lt, foldAt, foldAt-lt}
+use Rattle.protocols.proofs.Laws.Shared.{and-share-lt, bitAt-and-share, roundSAt-lt, roundPAt-lt, foldAt-lt}
 use Rattle.protocols.proofs.Laws.Source.{source-first, source-next}
 
 -- a position is below d, or d and some more

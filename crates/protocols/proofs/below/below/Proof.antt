@@ -2,7 +2,7 @@
 use borrow.Author.Tests.{not-true, not-false}
 use mathlib.Core.Path.{_∙_}
 use Rattle.protocols.specs.Shares.{operands}
-use Rattle.protocols.proofs.Laws.Perform.{below-ends, below-stops}
+use Rattle.protocols.proofs.Laws.Lent.{below-ends, below-stops}
 use Rattle.protocols.proofs.below.below.Statement.{statement}
 use Rattle.protocols.proofs.below.below.Tie as tie
 

@@ -1,6 +1,6 @@
 -- `protocols::bit::bit_after` meets its contract.
 use mathlib.Core.Path.{sym, _∙_}
-use Rattle.protocols.proofs.Laws.Perform.{bit-performs}
+use Rattle.protocols.proofs.Laws.Lent.{bit-performs}
 use Rattle.protocols.proofs.Laws.Messages.{append-append}
 use Rattle.protocols.specs.Bit.{bit}
 use borrow.Author.Needs.{needs}

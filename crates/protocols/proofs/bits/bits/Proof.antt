@@ -7,7 +7,8 @@ use native.Mathlib.Omega.{arith}
 use Rattle.protocols.specs.declared.shares.Shares.{Shares}
 use Rattle.protocols.specs.Place.{tapes}
 use Rattle.protocols.specs.Bits.{rounds, bits}
-use Rattle.protocols.proofs.Laws.Perform.{Performed, rounds-begun, rounds-unmasked, rounds-undealt, rounds-more, rounds-stopped, bits-spent, bits-done, outcome-done, outcome-spent}
+use Rattle.protocols.proofs.Laws.Perform.{Performed, outcome-done, outcome-spent}
+use Rattle.protocols.proofs.Laws.Lent.{rounds-begun, rounds-unmasked, rounds-undealt, rounds-more, rounds-stopped, bits-spent, bits-done}
 use Rattle.protocols.proofs.bits.bits.Statement.{statement}
 use Rattle.protocols.proofs.bits.bits.Tie as tie
 

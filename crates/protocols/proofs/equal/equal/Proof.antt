@@ -7,7 +7,8 @@ use native.Mathlib.Omega.{arith}
 use Rattle.protocols.specs.Shares.{Operands, operands}
 use Rattle.protocols.specs.Place.{tapes}
 use Rattle.protocols.specs.Equal.{folds, equal, compare}
-use Rattle.protocols.proofs.Laws.Perform.{Performed, folds-begun, folds-unmasked, folds-uncompared, folds-more, folds-stopped, equal-spent, equal-ends, outcome-spent}
+use Rattle.protocols.proofs.Laws.Perform.{Performed, outcome-spent}
+use Rattle.protocols.proofs.Laws.Lent.{folds-begun, folds-unmasked, folds-uncompared, folds-more, folds-stopped, equal-spent, equal-ends}
 use Rattle.protocols.proofs.equal.equal.Statement.{statement}
 use Rattle.protocols.proofs.equal.equal.Tie as tie
 

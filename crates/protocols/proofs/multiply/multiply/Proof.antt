@@ -1,7 +1,7 @@
 -- `protocols::multiply::multiply` meets its contract.
 use Rattle.protocols.proofs.Laws.Messages.{append-sent}
 use mathlib.Core.Path.{sym, _∙_}
-use Rattle.protocols.proofs.Laws.Perform.{multiply-performs}
+use Rattle.protocols.proofs.Laws.Lent.{multiply-performs}
 use borrow.Author.Needs.{needs}
 use Rattle.protocols.proofs.multiply.multiply.Statement.{statement}
 use Rattle.protocols.proofs.multiply.multiply.Tie as tie

@@ -1,7 +1,7 @@
 -- `protocols::open::open` meets its contract.
 use Rattle.protocols.proofs.Laws.Messages.{append-sent}
 use mathlib.Core.Path.{sym, _∙_}
-use Rattle.protocols.proofs.Laws.Perform.{opening-performs}
+use Rattle.protocols.proofs.Laws.Lent.{opening-performs}
 use borrow.Author.Needs.{needs}
 use Rattle.protocols.proofs.open.open.Statement.{statement}
 use Rattle.protocols.proofs.open.open.Tie as tie

@@ -1,7 +1,7 @@
 -- `protocols::reshare::reshare` meets its contract.
 use Rattle.protocols.proofs.Laws.Messages.{append-sent}
 use mathlib.Core.Path.{sym, _∙_}
-use Rattle.protocols.proofs.Laws.Perform.{reshare-performs}
+use Rattle.protocols.proofs.Laws.Lent.{reshare-performs}
 use borrow.Author.Needs.{needs}
 use Rattle.protocols.proofs.reshare.reshare.Statement.{statement}
 use Rattle.protocols.proofs.reshare.reshare.Tie as tie

@@ -1,7 +1,7 @@
 -- `protocols::store::store` meets its contract.
 use Rattle.protocols.proofs.Laws.Messages.{append-sent}
 use mathlib.Core.Path.{sym, _∙_}
-use Rattle.protocols.proofs.Laws.Perform.{store-performs}
+use Rattle.protocols.proofs.Laws.Lent.{store-performs}
 use borrow.Author.Needs.{needs}
 use Rattle.protocols.proofs.store.store.Statement.{statement}
 use Rattle.protocols.proofs.store.store.Tie as tie
