@@ -43,11 +43,15 @@ deal n = record {
   received = λ u t. to-two-three (word t one 1) (r₃ (modulus n) u t) followed-by to-two-three (word t one 2) (R₃ t);
 }
 
+-- what the miners hold before the first round, with its masks; p as it is now is taken up again at the end
+abbrev pub begun : Dealt → Shares → Shares → Held
+begun d q t = record { p = d .p; s = d .s; q = q; t = t; base = d .p }
+
 -- lines 4 and 6: 'Each miner draws q, t and sends them on. Miners 2 and 3 exchange u_i + r_i'
 unfoldable pub exchange : Protocol Dealt Held
 exchange = record {
   draws = counts 0 2 2 2;
-  result = λ d t. record { p = d .p; s = d .s; q = words t 0; t = words t 1; base = d .p };
+  result = λ d t. begun d (words t 0) (words t 1);
   received = λ d t. to-next (words t 0) followed-by to-next (words t 1) followed-by to-two-three (d .v3) (d .v2);
 }
 

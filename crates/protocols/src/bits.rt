@@ -138,6 +138,21 @@ fn deal(u: Shares, r: u32, r2: u32, bar2: u32) -> Dealing
     }
 }
 
+// What the miners hold before the first round, with its masks.
+fn begun(dealt: Dealt, q: Shares, t: Shares) -> Held
+    ensures { λ r. ⌜ r ≡ spec.begun dealt q t ⌝ }
+{
+    let p = dealt.p;
+    let s = dealt.s;
+    Held {
+        p,
+        s,
+        q,
+        t,
+        base: p,
+    }
+}
+
 // The result: s shifted up by one, with p as it was before the rounds.
 fn joined(h: Held) -> Shares
     ensures { λ r. ⌜ r ≡ spec.joined (width 5) h ⌝ }
@@ -161,17 +176,9 @@ pub fn bits(u: Shares, place: Place, tape1: &[u32], tape2: &[u32], tape3: &[u32]
     };
     let dealing = deal(u, r, r2, bar2);
     let dealt = dealing.dealt;
-    let p = dealt.p;
-    let s = dealt.s;
     let mut sent = dealing.sent;
     sent = sent.to_next(q).to_next(t).to_two_three(dealt.v3, dealt.v2);
-    let mut held = Held {
-        p,
-        s,
-        q,
-        t,
-        base: p,
-    };
+    let mut held = begun(dealt, q, t);
     let mut at = begun_at;
     let mut k: u32 = 0;
     while k < 5 {

@@ -16,7 +16,7 @@ use Rattle.protocols.specs.Outcome.{sent, append, dealing, outcome, cont
 use Rattle.protocols.proofs.Laws.Messages.{append-sent, append-append}
 use Rattle.protocols.specs.Masked.{masked}
 use Rattle.protocols.specs.Bit.{bit}
-use Rattle.protocols.specs.Bits.{deal, exchange, carried, round, rounds, joined, bits}
+use Rattle.protocols.specs.Bits.{deal, begun, exchange, carried, round, rounds, joined, bits}
 use Rattle.protocols.specs.Local.{difference}
 use Rattle.protocols.specs.Below.{below}
 use Rattle.protocols.specs.Equal.{compare, begin, folded, fold, folds, equal}
@@ -92,11 +92,11 @@ deal-performs n u p t =
 
 pub exchange-performs : (d : Dealt) (p : Place) (t : Tapes) → perform exchange d p t
     ≡ after-pairs (drawPairs p t)
-    (λ x y q. done (record { p = d .p; s = d .s; q = x; t = y; base = d .p }) (to-next x followed-by to-next y followed-by to-two-three (d .v3) (d .v2)) q)
+    (λ x y q. done (begun d x y) (to-next x followed-by to-next y followed-by to-two-three (d .v3) (d .v2)) q)
     spent
 unfolding exchange
 exchange-performs d p t =
-    by-pairs (λ d x y. record { p = d .p; s = d .s; q = x; t = y; base = d .p }) (λ d x y. to-next x followed-by to-next y followed-by to-two-three (d .v3) (d .v2)) d p t
+    by-pairs begun (λ d x y. to-next x followed-by to-next y followed-by to-two-three (d .v3) (d .v2)) d p t
 
 pub round-performs : (n k : ℕ) (h : Held) (p : Place) (t : Tapes) → perform (round n k) h p t
     ≡ after-pairs (drawPairs p t)
@@ -164,12 +164,12 @@ module _ (n : ℕ) (u : Shares) (p : Place) (t : Tapes) where
   module _ {x y z : ℕ} {p₁ : Place} (e : drawTriple p (tapes [] (t .one) [] []) ≡ triple.Words x y z p₁) where
     pub rounds-begun : (a b : Shares) {p₂ : Place} → drawPairs p₁ t ≡ pairs.Words a b p₂ → (d : Dealing) → d ≡ dealing n u x y z
         → (m : Sent) → m ≡ append (append (append (d .sent) (to-next a)) (to-next b)) (to-two-three (d .dealt .v3) (d .dealt .v2))
-        → Performed (rounds n 0) u p t (record { p = d .dealt .p; s = d .dealt .s; q = a; t = b; base = d .dealt .p }) m p₂
+        → (h : Held) → h ≡ begun (d .dealt) a b → Performed (rounds n 0) u p t h m p₂
     unfolding rounds
-    rounds-begun a b f d g m h = record {
+    rounds-begun a b f d g m e′ h e″ = record {
       words = deal n .received u (three-words x y z) followed-by (to-next a followed-by to-next b followed-by to-two-three (dealing n u x y z .dealt .v3) (dealing n u x y z .dealt .v2));
-      is = then-done (deal n) exchange u p t (deal-done e) ∙ rw (exchange-performs, f, g);
-      are = h ∙ rw g (simp append-append (rw append-sent));
+      is = then-done (deal n) exchange u p t (deal-done e) ∙ rw (exchange-performs, f, e″, g);
+      are = e′ ∙ rw g (simp append-append (rw append-sent));
     }
 
     pub rounds-unmasked : drawPairs p₁ t ≡ pairs.Spent → perform (rounds n 0) u p t ≡ spent

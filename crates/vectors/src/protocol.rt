@@ -1,0 +1,100 @@
+// The library's protocols, each by its name, on operands and tapes of one form.
+use protocols::below;
+use protocols::bit;
+use protocols::bits;
+use protocols::equal;
+use protocols::local;
+use protocols::message::Sent;
+use protocols::multiply;
+use protocols::open;
+use protocols::outcome::Outcome;
+use protocols::place::Place;
+use protocols::reshare;
+use protocols::shares::Shares;
+use protocols::store;
+
+// The commands of document 01.
+pub enum Protocol {
+    Store,
+    Add,
+    Subtract,
+    AddConstant,
+    TimesConstant,
+    Multiply,
+    Reshare,
+    Bits,
+    Bit,
+    Equal,
+    Open,
+    Below,
+}
+
+// Two shared values, and an input, a constant or a position.
+pub struct Operands {
+    pub u: Shares,
+    pub v: Shares,
+    pub w: u32,
+}
+
+// Words drawn from the provider's tape and those of miners 1 to 3. (Bytes: their sums fit.)
+pub struct Need(pub u8, pub u8, pub u8, pub u8);
+
+// Document 01's table.
+pub fn drawn_by(protocol: Protocol) -> Need {
+    match protocol {
+        Protocol::Store => Need(2, 0, 0, 0),
+        Protocol::Multiply => Need(0, 2, 2, 2),
+        Protocol::Reshare => Need(0, 1, 1, 1),
+        Protocol::Bits => Need(0, 15, 12, 12),
+        Protocol::Bit => Need(0, 3, 0, 0),
+        Protocol::Equal => Need(0, 10, 6, 6),
+        Protocol::Open => Need(0, 1, 1, 1),
+        Protocol::Below => Need(0, 18, 12, 12),
+        _ => Need(0, 0, 0, 0),
+    }
+}
+
+// Whether the protocol draws at all: if so, from the provider's tape or from miner 1's.
+pub fn draws(protocol: Protocol) -> bool {
+    let need = drawn_by(protocol);
+    0 < need.0 || 0 < need.1
+}
+
+// What each miner does on its own leaves the place as it is and sends nothing.
+fn alone(shares: Shares, place: Place) -> Outcome {
+    Outcome {
+        done: true,
+        shares,
+        place,
+        sent: Sent::new(),
+    }
+}
+
+// Each protocol takes what it uses of the operands and the tapes.
+pub fn perform(
+    protocol: Protocol,
+    x: Operands,
+    place: Place,
+    provider: &[u32],
+    tape1: &[u32],
+    tape2: &[u32],
+    tape3: &[u32],
+) -> Outcome {
+    let u = x.u;
+    let v = x.v;
+    let w = x.w;
+    match protocol {
+        Protocol::Store => store::store(w, place, provider),
+        Protocol::Add => alone(local::sum(u, v), place),
+        Protocol::Subtract => alone(local::difference(u, v), place),
+        Protocol::AddConstant => alone(local::shifted(u, w), place),
+        Protocol::TimesConstant => alone(local::multiple(u, w), place),
+        Protocol::Multiply => multiply::multiply(u, v, place, tape1, tape2, tape3),
+        Protocol::Reshare => reshare::reshare(u, place, tape1, tape2, tape3),
+        Protocol::Bits => bits::bits(u, place, tape1, tape2, tape3),
+        Protocol::Bit => bit::bit(u, w, place, tape1),
+        Protocol::Equal => equal::equal(u, v, place, tape1, tape2, tape3),
+        Protocol::Open => open::open(u, place, tape1, tape2, tape3),
+        Protocol::Below => below::below(u, v, place, tape1, tape2, tape3),
+    }
+}
