@@ -1,5 +1,5 @@
 -- Tapes, received lists, the place record and draws. (01, 'Handles, tapes and places')
-use Prim.Native.Nat.{ℕ, _+_, _-_}
+use Prim.Native.Nat.{ℕ, zero, suc, _+_, _-_}
 use mathlib.Core.List.{List, [], _∷_, _++_}
 use mathlib.Core.Bool.{Bool, _&&_, cond}
 use lib.ListN.{length, getD, take, drop}
@@ -135,9 +135,20 @@ withCount Three k n = counts (n .provider) (n .one) (n .two) k
 abbrev pub moved : Party → Place → Place
 moved i p = record { handles = p .handles; inputs = p .inputs; drawn = withCount i (count i (p .drawn) + 1) (p .drawn); received = p .received }
 
--- 'A draw answers either the word with the moved place, or that the tape is spent'
+-- 01, 'When a call is turned down': number 12, 'any tape has fewer words left than the command draws'; 0 is not turned down
+abbrev pub tapeSpent : ℕ
+tapeSpent = 12
+
+abbrev pub tapeNumber : Bool → ℕ
+tapeNumber enough = cond enough 0 tapeSpent
+
+-- the case of a draw for each number, with its values: 'either the word with the moved place, or that the tape is spent'
+abbrev pub drawCase : ℕ → ℕ → Place → Draw
+drawCase zero x q = Word x q
+drawCase (suc r) x q = Spent
+
 abbrev pub draw : Party → List ℕ → Place → Draw
-draw i l p = cond (ltb (count i (p .drawn)) (length l)) (Word (getD l (count i (p .drawn)) 0) (moved i p)) Spent
+draw i l p = drawCase (tapeNumber (ltb (count i (p .drawn)) (length l))) (getD l (count i (p .drawn)) 0) (moved i p)
 
 -- a test of every party
 abbrev pub every : (Party → Bool) → Bool

@@ -25,8 +25,7 @@ pub fn below(
     ensures { λ r. ⌜ r ≡ outcome place (perform (spec.below 5) (operands u v) place (tapes [] (now (tape1 .entry)) (now (tape2 .entry)) (now (tape3 .entry)))) ⌝ }
 {
     let word = bits::bits(local::difference(u, v), place, tape1, tape2, tape3);
-    let done = word.done;
-    if !done {
+    if 0 < word.number {
         return word;
     }
     let shares = word.shares;

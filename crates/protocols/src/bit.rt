@@ -82,7 +82,7 @@ pub fn bit_after(u: Shares, j: u32, place: Place, tape1: &[u32], from: Place, se
     let s23 = b12 ^ v.two;
     let s32 = b13 ^ v.three;
     Outcome {
-        done: true,
+        number: 0,
         shares: converted(s23 ^ s32, m12, m13),
         place: next,
         sent: sent.to_two_three(m12, m13)

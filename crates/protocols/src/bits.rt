@@ -193,7 +193,7 @@ pub fn bits(u: Shares, place: Place, tape1: &[u32], tape2: &[u32], tape3: &[u32]
         k += 1;
     }
     Outcome {
-        done: true,
+        number: 0,
         shares: joined(held),
         place: at,
         sent,

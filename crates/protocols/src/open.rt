@@ -23,7 +23,7 @@ pub fn open(s: Shares, place: Place, tape1: &[u32], tape2: &[u32], tape3: &[u32]
     };
     let fresh = reshare::fresh(s, r);
     Outcome {
-        done: true,
+        number: 0,
         shares: fresh,
         place: next,
         sent: Sent::new().to_next(r).to_controller(fresh),

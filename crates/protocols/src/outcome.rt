@@ -6,10 +6,10 @@ use super::message::Sent;
 use super::place::Place;
 use super::shares::Shares;
 
-// Done, with the new shares, the moved place and the words for each party; or, not done, a tape is spent and nothing is drawn or sent.
-// (An enum may not hold an array, and the messages do; so `done` tells the two apart.)
+// Number 0: done, with the new shares, the moved place and the words for each party. Number 12: a tape is spent, and nothing is drawn or
+// sent. (The numbers of document 01's refusals; an enum may not hold an array, and the messages do.)
 pub struct Outcome {
-    pub done: bool,
+    pub number: u32,
     pub shares: Shares,
     pub place: Place,
     pub sent: Sent,
@@ -21,7 +21,7 @@ impl Outcome {
         ensures { λ r. ⌜ r ≡ outcome place spent ⌝ }
     {
         Outcome {
-            done: false,
+            number: 12,
             shares: Shares {
                 one: 0,
                 two: 0,

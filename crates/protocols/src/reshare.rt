@@ -33,7 +33,7 @@ pub fn reshare(s: Shares, place: Place, tape1: &[u32], tape2: &[u32], tape3: &[u
         return Outcome::spent(place);
     };
     Outcome {
-        done: true,
+        number: 0,
         shares: fresh(s, r),
         place: next,
         sent: Sent::new().to_next(r),

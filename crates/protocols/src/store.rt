@@ -27,7 +27,7 @@ pub fn store(v: u32, place: Place, provider: &[u32]) -> Outcome
         three: ring::sub(ring::sub(v, s1), s2),
     };
     Outcome {
-        done: true,
+        number: 0,
         shares: dealt,
         place: next,
         sent: Sent::new().to_each(dealt),

@@ -43,7 +43,7 @@ fn message(h: u32, message: Message) -> u32 {
 }
 
 fn outcome(h: u32, outcome: Outcome) -> u32 {
-    let done = if outcome.done { 1 } else { 0 };
+    let done = if outcome.number == 0 { 1 } else { 0 };
     let sent = outcome.sent;
     let a = shares(word(h, done), outcome.shares);
     let b = place(a, outcome.place);

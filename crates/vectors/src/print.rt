@@ -98,7 +98,7 @@ fn operands(protocol: Protocol, x: Operands) {
 pub fn case(protocol: Protocol, x: Operands, outcome: Outcome) {
     name(protocol);
     operands(protocol, x);
-    flag(outcome.done);
+    flag(outcome.number == 0);
     text(b" shares");
     shares(outcome.shares);
 }

@@ -63,7 +63,7 @@ pub fn draws(protocol: Protocol) -> bool {
 // What each miner does on its own leaves the place as it is and sends nothing.
 fn alone(shares: Shares, place: Place) -> Outcome {
     Outcome {
-        done: true,
+        number: 0,
         shares,
         place,
         sent: Sent::new(),

@@ -36,7 +36,7 @@ fn line(label: &[u8], protocol: Protocol, x: Operands, short: u8, from: u32) -> 
     let sent = outcome.sent;
     print::text(label);
     print::name(protocol);
-    print::flag(outcome.done);
+    print::flag(outcome.number == 0);
     print::text(b" place");
     print::place(outcome.place);
     print::text(b" words");

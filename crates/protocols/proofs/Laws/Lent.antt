@@ -1,8 +1,8 @@
 -- Each protocol on lent tapes, by its draws and its parts.
 use mathlib.Core.Path.{_≡_, refl, sym, ap, _∙_}
-use mathlib.Core.Bool.{Bool, true, false, cond}
+use mathlib.Core.Bool.{Bool, true, false}
 use mathlib.Core.List.{[], _∷_}
-use Prim.Native.Nat.{ℕ, _+_, _-_, _≤_}
+use Prim.Native.Nat.{ℕ, _+_, _-_, _≤_, _<_}
 use native.Mathlib.Nat.{add-zero}
 use native.Mathlib.Omega.{arith}
 use Rattle.protocols.specs.declared.place.Party.{Party}
@@ -33,7 +33,7 @@ use Rattle.protocols.specs.declared.draws.Pairs.the-variants as pairs
 use Rattle.protocols.specs.declared.draws.Triple.the-variants as triple
 use Rattle.protocols.specs.Word.{width, modulus, sub}
 use Rattle.protocols.specs.Shares.{one, shares, Operands}
-use Rattle.protocols.specs.Place.{Tapes, tapes, tape, count, words, counts, moved, draw, block, _followed-by_, to-next, to-two-three, to-each, to-controller, silence}
+use Rattle.protocols.specs.Place.{Tapes, tapes, tape, count, words, counts, moved, tapeNumber, drawCase, draw, block, _followed-by_, to-next, to-two-three, to-each, to-controller, silence}
 use Rattle.protocols.specs.Draws.{drawEach, drawPairs, drawTriple, drawDouble}
 use Rattle.protocols.specs.Protocol.{_then_, locally, Answer, done, spent, perform}
 use Rattle.protocols.specs.Store.{store}
@@ -117,7 +117,7 @@ compare-performs n x p t = go (ltb (p .drawn .one) (length (t .one))) refl
     c = counts 0 1 0 0
 
     go : (e : Bool) → ltb (p .drawn .one) (length (t .one)) ≡ e → perform (compare n) x p t
-        ≡ after (cond e (Word (getD (t .one) (p .drawn .one) 0) (moved One p)) Spent)
+        ≡ after (drawCase (tapeNumber e) (getD (t .one) (p .drawn .one) 0) (moved One p))
         (λ r q. done (compare n .result x (tapes [] (r ∷ []) [] [])) (compare n .received x (tapes [] (r ∷ []) [] [])) q) spent
     go false e = rw (enough-false c p t One (omega (arith, ltb-false (p .drawn .one) (length (t .one)) e)))
     go true e =
@@ -269,18 +269,18 @@ module _ (n : ℕ) (x : Operands) (p : Place) (t : Tapes) where
       ∙ ap (λ (b : Answer Shares). and-then b (λ s l q. preceded l (perform (bit (modulus n) (width n - 1)) s q t))) e
 
   module _ (w : Outcome) (e : w ≡ outcome p (perform (bits n) (difference (modulus n) x) p t)) where
-    pub below-ends : w .done ≡ true → continued p (w .sent) (perform (bit (modulus n) (width n - 1)) (w .shares) (w .place) (tapes [] (t .one) [] [])) ≡ outcome p (perform (below n) x p t)
+    pub below-ends : w .number ≤ 0 → continued p (w .sent) (perform (bit (modulus n) (width n - 1)) (w .shares) (w .place) (tapes [] (t .one) [] [])) ≡ outcome p (perform (below n) x p t)
     below-ends h = go (perform (bits n) (difference (modulus n) x) p t) refl e
       where
         go : (a : Answer Shares) → perform (bits n) (difference (modulus n) x) p t ≡ a → w ≡ outcome p a
             → continued p (w .sent) (perform (bit (modulus n) (width n - 1)) (w .shares) (w .place) (tapes [] (t .one) [] [])) ≡ outcome p (perform (below n) x p t)
         go (done s l q) f g =
             rw (g, ← (bit-of-one (modulus n) (width n - 1) s q t)) (continued-after p l (perform (bit (modulus n) (width n - 1)) s q t) ∙ ap (outcome p) (sym (below-from (done s l q) f)))
-        go spent f g = let z : false ≡ true = cc in let y : _≡_ {A = ℕ} 0 1 = cc in absurd (omega arith)
+        go spent f g = let z : w .number ≡ 12 = rw g in absurd (omega (arith, h))
 
-    pub below-stops : w .done ≡ false → w ≡ outcome p (perform (below n) x p t)
+    pub below-stops : 0 < w .number → w ≡ outcome p (perform (below n) x p t)
     below-stops h = go (perform (bits n) (difference (modulus n) x) p t) refl e
       where
         go : (a : Answer Shares) → perform (bits n) (difference (modulus n) x) p t ≡ a → w ≡ outcome p a → w ≡ outcome p (perform (below n) x p t)
-        go (done s l q) f g = let z : true ≡ false = cc in let y : _≡_ {A = ℕ} 0 1 = cc in absurd (omega arith)
+        go (done s l q) f g = let z : w .number ≡ 0 = rw g in absurd (omega (arith, h))
         go spent f g = g ∙ ap (outcome p) (sym (below-from spent f))

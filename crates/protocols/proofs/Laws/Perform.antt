@@ -10,17 +10,12 @@ use Rattle.protocols.specs.declared.place.Party.the-variants.{Provider, 
 use Rattle.protocols.specs.declared.message.Sent.{Sent}
 use Rattle.protocols.specs.Outcome.{sent, append, outcome, continued}
 use Rattle.protocols.proofs.Laws.Messages.{append-sent}
-use Rattle.protocols.specs.declared.place.Draw.the-variants.{Spent}
 use lib.ListN.{getD}
 use Rattle.protocols.specs.declared.place.Place.{Place}
 use Rattle.protocols.specs.declared.shares.Shares.{Shares}
-use Rattle.protocols.specs.declared.draws.Each.the-variants as each
-use Rattle.protocols.specs.declared.draws.Pairs.the-variants as pairs
-use Rattle.protocols.specs.declared.draws.Triple.the-variants as triple
-use Rattle.protocols.specs.declared.draws.Double.the-variants as double
 use Rattle.protocols.specs.Shares.{one, shares}
-use Rattle.protocols.specs.Place.{Tapes, Lists, lists, word, words, counts, plus, cut, rest, advance, enough, block, _followed-by_, silence}
-use Rattle.protocols.specs.Draws.{drawEach, drawPairs, drawTriple, drawDouble}
+use Rattle.protocols.specs.Place.{Tapes, Lists, lists, word, words, counts, plus, cut, rest, advance, tapeNumber, enough, block, _followed-by_, silence}
+use Rattle.protocols.specs.Draws.{eachCase, drawEach, pairsCase, drawPairs, tripleCase, drawTriple, doubleCase, drawDouble}
 use Rattle.protocols.specs.Protocol.{Protocol, _then_, repeated, locally, Answer, done, spent, perform}
 use Rattle.protocols.specs.Claims.{OnTapes}
 use Rattle.protocols.proofs.Laws.Draws.{after-each, after-pairs, after-triple, after-double, enough-true, enough-false, Agree, enough-agree, block-agree, enough-plus, cut-block, rest-block, advance-plus}
@@ -41,7 +36,7 @@ module _ {S T : Type 0} where
       q : Place
       q = advance p (counts 0 1 1 1)
 
-      go : (e : Bool) → cond e (done (R s r) (L s r) q) spent ≡ after-each (cond e (each.Words r q) each.Spent) (λ r q. done (R s r) (L s r) q) spent
+      go : (e : Bool) → cond e (done (R s r) (L s r) q) spent ≡ after-each (eachCase (tapeNumber e) r q) (λ r q. done (R s r) (L s r) q) spent
       go true = refl
       go false = refl
 
@@ -59,7 +54,7 @@ module _ {S T : Type 0} where
       q = advance p (counts 0 2 2 2)
 
       go : (e : Bool) → cond e (done (R s (words b 0) (words b 1)) (L s (words b 0) (words b 1)) q) spent
-          ≡ after-pairs (cond e (pairs.Words (words b 0) (words b 1) q) pairs.Spent) (λ x y q. done (R s x y) (L s x y) q) spent
+          ≡ after-pairs (pairsCase (tapeNumber e) (words b 0) (words b 1) q) (λ x y q. done (R s x y) (L s x y) q) spent
       go true = refl
       go false = refl
 
@@ -83,7 +78,7 @@ module _ {S T : Type 0} where
       q = advance p (counts 0 3 0 0)
 
       go : (e : Bool) → cond e (done (R s (word b one 0) (word b one 1) (word b one 2)) (L s (word b one 0) (word b one 1) (word b one 2)) q) spent
-          ≡ after-triple (cond e (triple.Words (word b one 0) (word b one 1) (word b one 2) q) triple.Spent) (λ x y z q. done (R s x y z) (L s x y z) q) spent
+          ≡ after-triple (tripleCase (tapeNumber e) (word b one 0) (word b one 1) (word b one 2) q) (λ x y z q. done (R s x y z) (L s x y z) q) spent
       go true = refl
       go false = refl
 
@@ -107,7 +102,7 @@ module _ {S T : Type 0} where
       q = advance p (counts 2 0 0 0)
 
       go : (e : Bool) → cond e (done (R s (getD l 0 0) (getD l 1 0)) (L s (getD l 0 0) (getD l 1 0)) q) spent
-          ≡ after-double (cond e (double.Words (getD l 0 0) (getD l 1 0) q) double.Spent) (λ x y q. done (R s x y) (L s x y) q) spent
+          ≡ after-double (doubleCase (tapeNumber e) (getD l 0 0) (getD l 1 0) q) (λ x y q. done (R s x y) (L s x y) q) spent
       go true = refl
       go false = refl
 
@@ -241,7 +236,7 @@ module _ {S T : Type 0} (f : Protocol S T) (g : ℕ → Protocol T T) (s : S) (p
 
 -- the outcome of a protocol that is done
 pub outcome-done : {S : Type 0} (f : Protocol S Shares) (s : S) (p : Place) (t : Tapes) {x : Shares} {m : Sent} {q : Place}
-    → Performed f s p t x m q → record { done = true; shares = x; place = q; sent = m } ≡ outcome p (perform f s p t)
+    → Performed f s p t x m q → record { number = 0; shares = x; place = q; sent = m } ≡ outcome p (perform f s p t)
 outcome-done f s p t d = rw (d .is, d .are)
 
 pub outcome-spent : {S : Type 0} (f : Protocol S Shares) (s : S) (p : Place) (t : Tapes) → perform f s p t ≡ spent → outcome p spent ≡ outcome p (perform f s p t)

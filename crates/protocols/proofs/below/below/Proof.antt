@@ -1,5 +1,4 @@
 -- `protocols::below::below` meets its contract.
-use borrow.Author.Tests.{not-true, not-false}
 use mathlib.Core.Path.{_∙_}
 use Rattle.protocols.specs.Shares.{operands}
 use Rattle.protocols.proofs.Laws.Lent.{below-ends, below-stops}
@@ -13,13 +12,13 @@ bits-requires : tie.Need-bits-requires
 bits-requires c κs = tt
 
 returns : tie.Need-returns
-returns c = below-stops 5 (operands (c .before .before .before .before .before .before .args .u) (c .before .before .before .before .before .before .args .v)) _ _ ((c .before .bits) .result) (rw ((c .before .before .difference) .ensures) at ((c .before .bits) .ensures)) (not-true _ ((c .if1) .taken))
+returns c = below-stops 5 (operands (c .before .before .before .before .before .before .before .args .u) (c .before .before .before .before .before .before .before .args .v)) _ _ ((c .before .before .bits) .result) (rw ((c .before .before .before .difference) .ensures) at ((c .before .before .bits) .ensures)) ((c .if1) .taken)
 
 bit-after-requires : tie.Need-bit-after-requires
 bit-after-requires c κs = tt
 
 returns-2 : tie.Need-returns-2
-returns-2 c = (c .bit-after) .ensures ∙ below-ends 5 (operands (c .before .before .before .before .before .before .before .before .before .before .args .u) (c .before .before .before .before .before .before .before .before .before .before .args .v)) _ _ ((c .before .before .before .before .before .bits) .result) (rw ((c .before .before .before .before .before .before .difference) .ensures) at ((c .before .before .before .before .before .bits) .ensures)) (not-false _ ((c .before .before .before .before .if1) .left))
+returns-2 c = (c .bit-after) .ensures ∙ below-ends 5 (operands (c .before .before .before .before .before .before .before .before .before .before .before .args .u) (c .before .before .before .before .before .before .before .before .before .before .before .args .v)) _ _ ((c .before .before .before .before .before .before .bits) .result) (rw ((c .before .before .before .before .before .before .before .difference) .ensures) at ((c .before .before .before .before .before .before .bits) .ensures)) ((c .before .before .before .before .if1) .left)
 
 pub below-spec : {M : Type 1} → statement M
 below-spec =

@@ -85,7 +85,7 @@ spent-requires-3 c κs = tt
 
 returns-3 : tie.Need-returns-3 Inv-loop μ-loop
 returns-3 c =
-    let d = (c .before .before .before .before .before .loop) .inv .1 ((c .before .before .before .before .before .before .before .before .before .before .before .before .before .before .before .before .before .before .before .before .before .before .before .before .args) .u) (rounds-begun 5 ((c .before .before .before .before .before .before .before .before .before .before .before .before .before .before .before .before .before .before .before .before .before .before .before .before .args) .u) _ _ (sym ((c .before .before .before .before .before .before .before .before .before .before .before .before .before .before .before .before .before .before .before .before .draw-triple) .ensures) ∙ (c .before .before .before .before .before .before .before .before .before .before .before .before .before .before .before .before .before .before .r) .given .1) _ _ (sym ((c .before .before .before .before .before .before .before .before .before .before .before .before .before .before .before .before .draw-pairs) .ensures) ∙ (c .before .before .before .before .before .before .before .before .before .before .before .before .before .before .q) .given .1) ((c .before .before .before .before .before .before .before .before .before .before .before .before .deal) .result) ((c .before .before .before .before .before .before .before .before .before .before .before .before .deal) .ensures) ((c .before .before .before .before .before .before .before .to-two-three) .result) (rw ((c .before .before .before .before .before .before .before .to-two-three) .ensures, (c .before .before .before .before .before .before .before .before .to-next2) .ensures, (c .before .before .before .before .before .before .before .before .before .to-next) .ensures)) ((c .before .before .before .before .before .before .begun) .result) ((c .before .before .before .before .before .before .begun) .ensures)) in
+    let d = (c .before .before .before .before .before .loop) .inv .1 (c .before .before .before .before .before .before .before .before .before .before .before .before .before .before .before .before .before .before .before .before .before .before .before .before .args .u) (rounds-begun 5 (c .before .before .before .before .before .before .before .before .before .before .before .before .before .before .before .before .before .before .before .before .before .before .before .before .args .u) _ _ (sym ((c .before .before .before .before .before .before .before .before .before .before .before .before .before .before .before .before .before .before .before .before .draw-triple) .ensures) ∙ (c .before .before .before .before .before .before .before .before .before .before .before .before .before .before .before .before .before .before .r) .given .1) _ _ (sym ((c .before .before .before .before .before .before .before .before .before .before .before .before .before .before .before .before .draw-pairs) .ensures) ∙ (c .before .before .before .before .before .before .before .before .before .before .before .before .before .before .q) .given .1) ((c .before .before .before .before .before .before .before .before .before .before .before .before .deal) .result) ((c .before .before .before .before .before .before .before .before .before .before .before .before .deal) .ensures) ((c .before .before .before .before .before .before .before .to-two-three) .result) (rw ((c .before .before .before .before .before .before .before .to-two-three) .ensures, (c .before .before .before .before .before .before .before .before .to-next2) .ensures, (c .before .before .before .before .before .before .before .before .before .to-next) .ensures)) ((c .before .before .before .before .before .before .begun) .result) ((c .before .before .before .before .before .before .begun) .ensures)) in
     (c .spent3) .ensures ∙ outcome-spent (bits 5) _ _ _ (bits-spent 5 _ _ _ ((c .before .before .before .before .before .loop) .k + 1) (omega (arith, (c .before .before .before .before .before .loop) .inv .0, (c .before .before .before .before .loop-test) .taken)) (rounds-stopped 5 _ _ _ ((c .before .before .before .before .before .loop) .k) d (sym ((c .before .before .before .draw-pairs2) .ensures) ∙ (c .before .enum-told3) .given .1)))
 
 masked-requires : tie.Need-masked-requires Inv-loop μ-loop
@@ -129,7 +129,7 @@ joined-requires c κs = tt
 
 returns-4 : tie.Need-returns-4 Inv-loop μ-loop
 returns-4 c =
-    let d = (c .before .before .loop) .inv .1 ((c .before .before .before .before .before .before .before .before .before .before .before .before .before .before .before .before .before .before .before .before .before .args) .u) (rounds-begun 5 ((c .before .before .before .before .before .before .before .before .before .before .before .before .before .before .before .before .before .before .before .before .before .args) .u) _ _ (sym ((c .before .before .before .before .before .before .before .before .before .before .before .before .before .before .before .before .before .draw-triple) .ensures) ∙ (c .before .before .before .before .before .before .before .before .before .before .before .before .before .before .before .r) .given .1) _ _ (sym ((c .before .before .before .before .before .before .before .before .before .before .before .before .before .draw-pairs) .ensures) ∙ (c .before .before .before .before .before .before .before .before .before .before .before .q) .given .1) ((c .before .before .before .before .before .before .before .before .before .deal) .result) ((c .before .before .before .before .before .before .before .before .before .deal) .ensures) ((c .before .before .before .before .to-two-three) .result) (rw ((c .before .before .before .before .to-two-three) .ensures, (c .before .before .before .before .before .to-next2) .ensures, (c .before .before .before .before .before .before .to-next) .ensures)) ((c .before .before .before .begun) .result) ((c .before .before .before .begun) .ensures)) in
+    let d = (c .before .before .loop) .inv .1 (c .before .before .before .before .before .before .before .before .before .before .before .before .before .before .before .before .before .before .before .before .before .args .u) (rounds-begun 5 (c .before .before .before .before .before .before .before .before .before .before .before .before .before .before .before .before .before .before .before .before .before .args .u) _ _ (sym ((c .before .before .before .before .before .before .before .before .before .before .before .before .before .before .before .before .before .draw-triple) .ensures) ∙ (c .before .before .before .before .before .before .before .before .before .before .before .before .before .before .before .r) .given .1) _ _ (sym ((c .before .before .before .before .before .before .before .before .before .before .before .before .before .draw-pairs) .ensures) ∙ (c .before .before .before .before .before .before .before .before .before .before .before .q) .given .1) ((c .before .before .before .before .before .before .before .before .before .deal) .result) ((c .before .before .before .before .before .before .before .before .before .deal) .ensures) ((c .before .before .before .before .to-two-three) .result) (rw ((c .before .before .before .before .to-two-three) .ensures, (c .before .before .before .before .before .to-next2) .ensures, (c .before .before .before .before .before .before .to-next) .ensures)) ((c .before .before .before .begun) .result) ((c .before .before .before .begun) .ensures)) in
     let e : (c .before .before .loop) .k ≡ 5 = omega (arith, (c .before .before .loop) .inv .0, (c .before .loop-test) .left) in
     rw ((c .joined) .ensures) (outcome-done (bits 5) _ _ _ (bits-done 5 _ _ _ (rw e at d)))
 
