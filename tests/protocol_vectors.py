@@ -7,7 +7,7 @@ same cases on the proved library and has to write the same text. To write that t
     python3 tests/protocol_vectors.py > crates/vectors/stdout
 
 A protocol moves the drawn counts of the place record alone: commands, which stand on the protocols, move the others.
-What is not done answers shares 0, 0, 0, the place as it was and no words.
+A tape with too few words left is number 12: shares 0, 0, 0, the place as it was and no words. Else the number is 0.
 """
 
 RING = 2**32
@@ -198,14 +198,14 @@ def generated(name, words):
 
 
 def perform(name, u, v, w, place, tapes):
-    """Done or not, the new shares, the ten numbers of the place record, the four lists of received words."""
+    """The number, the new shares, the ten numbers of the place record, the four lists of received words."""
     run = Run(tapes, place[2:6])
     try:
         shares = COMMANDS[name][1](run, dict(zip(MINERS, u)), dict(zip(MINERS, v)), w)
     except EOFError:
-        return 0, [0, 0, 0], place, [[], [], [], []]
+        return 12, [0, 0, 0], place, [[], [], [], []]
     assert COMMANDS[name][2] == [len(words) for words in run.received.values()]
-    return 1, list(shares.values()), place[:2] + run.drawn + place[6:], list(run.received.values())
+    return 0, list(shares.values()), place[:2] + run.drawn + place[6:], list(run.received.values())
 
 
 def show(label, name, u, v, w, *rest):
@@ -215,10 +215,10 @@ def show(label, name, u, v, w, *rest):
 
 kept = {}
 for label, (name, u, v, w, tapes, given) in WORKED.items():
-    done, shares, _, kept[label] = perform(name, u, v, w, [0] * 10, tapes)
+    number, shares, _, kept[label] = perform(name, u, v, w, [0] * 10, tapes)
     value = shares[0] ^ shares[1] ^ shares[2] if name == "bits" else sum(shares) % RING
     assert given in (shares, value)
-    show(label, name, u, v, w, "done", done, "shares", *shares, "value", value)
+    show(label, name, u, v, w, "number", number, "shares", *shares, "value", value)
 assert [word for label in ("M1", "M2", "M3", "M4") for word in kept[label][0]] == [1, 3, 50, 60, 24, 18, 90]
 for words, filled in [(kept["M4"][3], n) for n in (29, 27, 30)] + [(kept["M12"][1], n) for n in (4, 2, 5)]:
     lent, fits = list(range(100, 132)), len(words) <= 32 - filled  # words go to the front of the tail, if they fit
@@ -228,8 +228,8 @@ words = words_from(1)
 for name, (*_, need) in COMMANDS.items():
     for n in (1, 2, 3):
         operands, tapes, _ = generated(name, words)
-        done, shares, place, received = perform(name, *operands, tapes)
-        show(f"case {n}", name, *operands[:3], "done", done, "shares", *shares)
+        number, shares, place, received = perform(name, *operands, tapes)
+        show(f"case {n}", name, *operands[:3], "number", number, "shares", *shares)
         if any(need):
             print("  place", *place)
             for party, list_ in zip(LISTS, received):
@@ -238,12 +238,12 @@ for name, (*_, need) in COMMANDS.items():
         operands, tapes, _ = generated(name, words)
     for short in [x for x, n in enumerate([*need, sum(need)]) if n]:
         lent = [tape[: 3 + x + n - (x == short)] for x, (tape, n) in enumerate(zip(tapes, need))]
-        done, shares, place, received = perform(name, *operands[:3], list(range(1, 11)), lent)
-        print("short", TAPES[short], name, "done", done, "place", *place, "words", *map(len, received))
+        number, shares, place, received = perform(name, *operands[:3], list(range(1, 11)), lent)
+        print("short", TAPES[short], name, "number", number, "place", *place, "words", *map(len, received))
     h = 0
     for _ in range(200):
         operands, tapes, lent = generated(name, words)
-        done, shares, place, received = perform(name, *operands, [tape[:n] for tape, n in zip(tapes, lent)])
-        for word in (done, *shares, *place, *(word for list_ in received for word in (len(list_), *list_))):
+        number, shares, place, received = perform(name, *operands, [tape[:n] for tape, n in zip(tapes, lent)])
+        for word in (number, *shares, *place, *(word for list_ in received for word in (len(list_), *list_))):
             h = (31 * h + word) % RING
     print("checksum", name, h)

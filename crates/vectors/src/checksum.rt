@@ -43,9 +43,8 @@ fn message(h: u32, message: Message) -> u32 {
 }
 
 fn outcome(h: u32, outcome: Outcome) -> u32 {
-    let done = if outcome.number == 0 { 1 } else { 0 };
     let sent = outcome.sent;
-    let a = shares(word(h, done), outcome.shares);
+    let a = shares(word(h, outcome.number), outcome.shares);
     let b = place(a, outcome.place);
     let c = message(message(b, sent.one), sent.two);
     message(message(c, sent.three), sent.controller)

@@ -31,6 +31,11 @@ pub fn flag(done: bool) {
     }
 }
 
+pub fn number(outcome: Outcome) {
+    text(b" number");
+    word(outcome.number);
+}
+
 // The first n words of a list.
 pub fn words(list: &[u32], n: usize) {
     let mut i = 0;
@@ -94,11 +99,11 @@ fn operands(protocol: Protocol, x: Operands) {
     }
 }
 
-// The protocol, its operands, and whether it is done with what shares.
+// The protocol, its operands, and the outcome's number and shares.
 pub fn case(protocol: Protocol, x: Operands, outcome: Outcome) {
     name(protocol);
     operands(protocol, x);
-    flag(outcome.number == 0);
+    number(outcome);
     text(b" shares");
     shares(outcome.shares);
 }

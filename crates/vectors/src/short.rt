@@ -1,4 +1,4 @@
-// Tapes with exactly enough words, and with one word too few: nothing is done then, the place stays and no word is sent.
+// Tapes with exactly enough words, and with one word too few: number 12, the place stays and no word is sent.
 use crate::case;
 use crate::case::Lent;
 use crate::print;
@@ -36,7 +36,7 @@ fn line(label: &[u8], protocol: Protocol, x: Operands, short: u8, from: u32) -> 
     let sent = outcome.sent;
     print::text(label);
     print::name(protocol);
-    print::flag(outcome.number == 0);
+    print::number(outcome);
     print::text(b" place");
     print::place(outcome.place);
     print::text(b" words");
