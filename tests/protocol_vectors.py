@@ -1,6 +1,6 @@
 """A second writing of the three-miner protocols, and the vectors that it gives for the crate `protocols`.
 
-Written from the papers alone, position by position: document 000 (algorithms 1, 3, 4 and 5), document 001 (sharing and
+Written from the papers, position by position, and sharing no code with the crate: document 000 (algorithms 1, 3, 4 and 5), document 001 (sharing and
 resharing) and document 01 (order of draws and of received words, opening, below). The program `crates/vectors` runs the
 same cases on the proved library and has to write the same text. To write that text anew:
 
