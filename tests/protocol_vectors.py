@@ -1,8 +1,8 @@
 """A second writing of the three-miner protocols, and the vectors that it gives for the crate `protocols`.
 
-Written from the papers, position by position, and sharing no code with the crate: document 000 (algorithms 1, 3, 4 and 5), document 001 (sharing and
-resharing) and document 01 (order of draws and of received words, opening, below). The program `crates/vectors` runs the
-same cases on the proved library and has to write the same text. To write that text anew:
+Written from the papers, position by position, and sharing no code with the crate: document 000 (algorithms 1, 3, 4 and
+5), document 001 (sharing and resharing) and document 01 (order of draws and of received words, opening, below). The
+program `crates/vectors` runs the same cases on the proved library and has to write the same text. To write it anew:
 
     python3 tests/protocol_vectors.py > crates/vectors/stdout
 
