@@ -94,7 +94,7 @@ pub roundPAt-lt : (k p p′ j : ℕ) → roundPAt k p p′ j < 2
 roundPAt-lt k p p′ j = choose-lt (bitAt j k) (bit-lt p j) (and-bits-lt p p′ p p′ j (source k j))
 
 pub foldAt-lt : (k p p′ j : ℕ) → foldAt k p p′ j < 2
-foldAt-lt k p p′ j = choose-lt (j % 2 ^ suc k) (and-bits-lt p p′ p p′ j (j + 2 ^ k)) (bit-lt p j)
+foldAt-lt k p p′ j = choose-lt (j % 2 ^ suc k) (and-bits-lt p p′ p p′ j _) (bit-lt p j)
 
 module _ (w k p p′ : ℕ) where
   pub roundS-lt : (s s′ : ℕ) → roundS w k p p′ s s′ < 2 ^ w
@@ -151,8 +151,8 @@ module _ (w k : ℕ) (p : Shares) where
   unfolding foldShare
   xor-fold =
       xor-positions w (λ i. foldAt k (at i p) (at (prev i) p)) (foldAt k (xorOf p) 0) (λ i. foldAt-lt k (at i p) (at (prev i) p))
-      (λ j. xor-choose (j % 2 ^ suc k) (ands (bitsAt j p) (bitsAt (j + 2 ^ k) p)) (bitsAt j p)
-      ∙ ap₂ (choose (j % 2 ^ suc k)) (xor-and-bits p p j (j + 2 ^ k)) (xor-bits-at j p))
+      (λ j. xor-choose (j % 2 ^ suc k) (ands (bitsAt j p) (bitsAt _ p)) (bitsAt j p)
+      ∙ ap₂ (choose (j % 2 ^ suc k)) (xor-and-bits p p j _) (xor-bits-at j p))
 
 -- ---- shifted up by one
 
