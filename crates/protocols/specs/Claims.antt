@@ -2,10 +2,11 @@
 -- Everywhere m is a modulus and n stands for words of 2 ^ n bits; nothing is assumed of shares and drawn words but that each is a word.
 use Prim.Native.Nat.{ℕ, suc, _+_, _-_, _*_, _/_, _^_, _≤_, _<_}
 use mathlib.Core.Path.{_≡_}
-use mathlib.Core.Bool.{cond}
+use mathlib.Core.Bool.{true, cond}
 use mathlib.Core.List.{List}
 use lib.Dec.{eqb}
 use lib.ListN.{length}
+use lib.Seq.{sets}
 use Rattle.protocols.specs.declared.place.Party.{Party}
 use Rattle.protocols.specs.declared.place.Drawn.{Drawn}
 use Rattle.protocols.specs.declared.place.Received.{Received}
@@ -15,7 +16,7 @@ use Rattle.protocols.specs.Word.{width, modulus, add, sub, mul, bitAt}
 use Rattle.protocols.specs.Shares.{AreWords, Operands, sumOf, xorOf}
 use Rattle.protocols.specs.Place.{Tapes, tape, count, counts, inOrder, advance, block}
 use Rattle.protocols.specs.Protocol.{Protocol, locally, done, spent, perform}
-use Rattle.protocols.specs.Outcome.{message, wordsOf}
+use Rattle.protocols.specs.Outcome.{message, wordsOf, delivery, delivered}
 use Rattle.protocols.specs.Store.{store}
 use Rattle.protocols.specs.Local.{sum, difference, multiple, shifted}
 use Rattle.protocols.specs.Reshare.{reshare}
@@ -134,6 +135,8 @@ pub record OnTapes {S T : Type 0} (f : Protocol S T) (s : S) (p : Place) (t : Ta
 pub record MessageHolds (l : List ℕ) : Type 0 where
   pub counted : message l .count ≡ length l
   pub words : wordsOf (message l) ≡ l
+  -- and they go to the front of a tail that has room for them
+  pub delivers : (tail : List ℕ) → length l ≤ length tail → delivered (message l) tail ≡ delivery true (sets tail 0 l)
 
 -- ---- all of it
 

@@ -15,6 +15,10 @@ pub record Protocol (S T : Type 0) : Type 0 where
 abbrev pub locally : {S T : Type 0} → (S → T) → Protocol S T
 locally f = record { draws = counts 0 0 0 0; result = λ s b. f s; received = λ s b. silence }
 
+-- on a part of what is held
+abbrev pub on : {S T Z : Type 0} → (S → T) → Protocol T Z → Protocol S Z
+on part f = record { draws = f .draws; result = λ s b. f .result (part s) b; received = λ s b. f .received (part s) b }
+
 infixr 20 _then_
 -- one after the other
 unfoldable pub _then_ : {S T Z : Type 0} → Protocol S T → Protocol T Z → Protocol S Z

@@ -2,6 +2,7 @@
 ghost use mathlib.Core.Path.{_≡_};
 ghost use mathlib.Core.List.{[]};
 ghost use Rattle.protocols.specs.Word.{modulus};
+ghost use Rattle.protocols.specs.Shares.{sumOf};
 ghost use Rattle.protocols.specs.Place.{tapes};
 ghost use Rattle.protocols.specs.Protocol.{perform};
 ghost use Rattle.protocols.specs.Outcome.{outcome};
@@ -12,6 +13,7 @@ use super::message::Sent;
 use super::outcome::Outcome;
 use super::place::Place;
 use super::reshare;
+use super::ring;
 use super::shares::Shares;
 
 // Fresh shares of a value go to the controller; the caller keeps the old ones.
@@ -28,4 +30,11 @@ pub fn open(s: Shares, place: Place, tape1: &[u32], tape2: &[u32], tape3: &[u32]
         place: next,
         sent: Sent::new().to_next(r).to_controller(fresh),
     }
+}
+
+// The word that three shares add up to.
+pub fn total(s: Shares) -> u32
+    ensures { λ r. ⌜ r ≡ sumOf (modulus 5) s ⌝ }
+{
+    ring::add(ring::add(s.one, s.two), s.three)
 }

@@ -1,14 +1,15 @@
 -- Blocks of words: their lengths and bounds, and what is cut off, left and joined again.
-use mathlib.Core.Path.{_≡_, refl}
+use mathlib.Core.Path.{_≡_, refl, ap}
 use mathlib.Core.List.{List, [], _∷_, _++_}
-use Prim.Native.Nat.{ℕ, zero, suc, _+_, _<_}
+use Prim.Native.Nat.{ℕ, zero, suc, _+_, _≤_, _<_}
 use native.Mathlib.Omega.{arith}
-use lib.ListN.{take, drop, getD, length-append, length-take, length-drop, take-append-drop}
-use lib.Seq.{take-at, drop-at}
+use lib.ListN.{length, take, drop, getD, length-append, length-take, length-drop, take-append-drop}
+use lib.Seq.{take-at, drop-at, length-take-le}
 use Rattle.protocols.specs.declared.place.Party.{Party}
 use Rattle.protocols.specs.declared.place.Party.the-variants.{Provider, One, Two, Three}
 use Rattle.protocols.specs.declared.place.Drawn.{Drawn}
-use Rattle.protocols.specs.Place.{Tapes, tapes, tape, plus, cut, rest, join}
+use Rattle.protocols.specs.declared.place.Place.{Place}
+use Rattle.protocols.specs.Place.{Tapes, tapes, tape, count, plus, cut, rest, join, block}
 use Rattle.protocols.specs.Contents.{Below, Words, Contents}
 
 -- ---- one list
@@ -93,3 +94,25 @@ module _ (m : ℕ) (n : Drawn) (a b : Tapes) (h : Contents m n a) where
       parts One = drop-at (a .one) (b .one) (n .one) (h One .long)
       parts Two = drop-at (a .two) (b .two) (n .two) (h Two .long)
       parts Three = drop-at (a .three) (b .three) (n .three) (h Three .long)
+
+-- ---- the next words of the tapes
+
+module _ (m : ℕ) where
+  next-words : (l : List ℕ) (k j : ℕ) → Below m l → k + j ≤ length l → Words m j (take j (drop k l))
+  next-words l k j b h = record {
+    long = length-take-le j (drop k l) (omega (arith, length-drop k l));
+    below = below-take m j (drop k l) (below-drop m k l b);
+  }
+
+  pub block-contents : (d : Drawn) (p : Place) (t : Tapes) → ((i : Party) → Below m (tape i t))
+      → ((i : Party) → count i (p .drawn) + count i d ≤ length (tape i t)) → Contents m d (block d p t)
+  unfolding block
+  block-contents d p t b h Provider = next-words (t .provider) (p .drawn .provider) (d .provider) (b Provider) (h Provider)
+  block-contents d p t b h One = next-words (t .one) (p .drawn .one) (d .one) (b One) (h One)
+  block-contents d p t b h Two = next-words (t .two) (p .drawn .two) (d .two) (b Two) (h Two)
+  block-contents d p t b h Three = next-words (t .three) (p .drawn .three) (d .three) (b Three) (h Three)
+
+-- a block is told by the words drawn before it
+pub block-same : (d : Drawn) (p q : Place) (t : Tapes) → p .drawn ≡ q .drawn → block d p t ≡ block d q t
+unfolding block
+block-same d p q t e = ap (λ (n : Drawn). cut d (rest n t)) e

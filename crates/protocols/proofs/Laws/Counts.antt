@@ -1,9 +1,10 @@
 -- What each protocol draws, delivers and makes: laws of Counted, and document 01's table.
-use mathlib.Core.Path.{_≡_, refl, ap₂, subst₂}
+use mathlib.Core.Path.{_≡_, refl, ap₂, subst₂, _∙_}
 use mathlib.Core.List.{[], _∷_}
 use Prim.Native.Nat.{ℕ, zero, suc, _+_, _-_, _*_, _^_, _≤_, _<_}
 use native.Mathlib.Nat.{mod-lt, zero-lt-suc, lt-of-le-of-lt}
 use native.Mathlib.Omega.{arith}
+use lib.ListN.{length, length-append}
 use lib.Pow.{pow-pos, pow-mono}
 use lib.Bits.{bitXor, xor-lt, and-le-l}
 use Rattle.protocols.specs.declared.place.Party.the-variants.{Provider, One, Two, Three}
@@ -29,7 +30,7 @@ use Rattle.protocols.specs.Equal.{compared, compare, begin, fold, folds,
 use Rattle.protocols.specs.Open.{opening}
 use Rattle.protocols.specs.Below.{below}
 use Rattle.protocols.specs.Contents.{Words, Contents}
-use Rattle.protocols.specs.Counts.{received, due, Counted}
+use Rattle.protocols.specs.Counts.{received, plusReceived, due, Counted}
 use Rattle.protocols.specs.Claims.{OperandsAreWords, Table, TableAt32}
 use Rattle.protocols.proofs.Laws.Ring.{add-lt, sub-lt, mul-lt}
 use Rattle.protocols.proofs.Laws.Bitwise.{bit-lt}
@@ -37,10 +38,6 @@ use Rattle.protocols.proofs.Laws.Shared.{roundS-lt, roundP-lt, foldShar
 use Rattle.protocols.proofs.Laws.Blocks.{words-append, word-lt, contents-cut, contents-rest}
 
 -- ---- counts
-
--- counts of received words, added up
-abbrev pub plusReceived : Received → Received → Received
-plusReceived j k = received (j .one + k .one) (j .two + k .two) (j .three + k .three) (j .controller + k .controller)
 
 -- equal counts, number by number
 abbrev pub SameDrawn : Drawn → Drawn → Type 0
@@ -54,6 +51,25 @@ drawn-path e = λ i. counts (e .0 i) (e .1 i) (e .2 i) (e .3 i)
 
 received-path : {k k′ : Received} → SameReceived k k′ → k ≡ k′
 received-path e = λ i. received (e .0 i) (e .1 i) (e .2 i) (e .3 i)
+
+-- ---- lengths of received lists
+
+-- lists of k words
+abbrev Long : Received → Lists → Type 0
+Long k l = (r : Receiver) → length (list r l) ≡ due r k
+
+-- lists are as long as they are: for lists of fixed shape the counts compute
+own-long : (l : Lists) → Long (received (length (l .one)) (length (l .two)) (length (l .three)) (length (l .controller))) l
+own-long l (miner one) = refl
+own-long l (miner two) = refl
+own-long l (miner three) = refl
+own-long l controller = refl
+
+followed-by-long : {j k : Received} (l l′ : Lists) → Long j l → Long k l′ → Long (plusReceived j k) (l followed-by l′)
+followed-by-long l l′ g h (miner one) = length-append (l .one) (l′ .one) ∙ ap₂ _+_ (g (miner one)) (h (miner one))
+followed-by-long l l′ g h (miner two) = length-append (l .two) (l′ .two) ∙ ap₂ _+_ (g (miner two)) (h (miner two))
+followed-by-long l l′ g h (miner three) = length-append (l .three) (l′ .three) ∙ ap₂ _+_ (g (miner three)) (h (miner three))
+followed-by-long l l′ g h controller = length-append (l .controller) (l′ .controller) ∙ ap₂ _+_ (g controller) (h controller)
 
 -- ---- received lists of words
 
@@ -124,7 +140,7 @@ module _ {m : ℕ} where
 
 module _ {m : ℕ} {S T : Type 0} {Good : S → Type 0} {Made : T → Type 0} where
   pub counted-locally : {f : S → T} → ((s : S) → Good s → Made (f s)) → Counted m (locally f) Good Made (counts 0 0 0 0) (received 0 0 0 0)
-  counted-locally h = record { drawn = refl; delivered = λ s g b c. silence-words; made = λ s g b c. h s g }
+  counted-locally h = record { drawn = refl; long = λ s b. own-long _; delivered = λ s g b c. silence-words; made = λ s g b c. h s g }
 
   pub counted-along : {f : Protocol S T} {n n′ : Drawn} {k k′ : Received}
       → Counted m f Good Made n k → SameDrawn n n′ → SameReceived k k′ → Counted m f Good Made n′ k′
@@ -135,6 +151,7 @@ module _ {m : ℕ} {S T : Type 0} {Good : S → Type 0} {Made : T → Type 0} wh
   unfolding _then_
   counted-then {f = f} {g} c d = record {
     drawn = ap₂ plus (c .drawn) (d .drawn);
+    long = λ s b. followed-by-long _ _ (c .long s _) (d .long _ _);
     delivered = λ s h b w. followed-by-words (c .delivered s h _ (first b w)) (d .delivered _ (c .made s h _ (first b w)) _ (second b w));
     made = λ s h b w. d .made _ (c .made s h _ (first b w)) _ (second b w);
   }
@@ -162,7 +179,7 @@ module _ (m : ℕ) (pos : 0 < m) where
 
   store-counts : Counted m (store m) (λ v. v < m) (AreWords m) (counts 2 0 0 0) (received 1 1 1 0)
   unfolding store
-  store-counts = record { drawn = refl; delivered = λ v g b h. each-words (dealt-words v b h); made = λ v g b h. dealt-words v b h }
+  store-counts = record { drawn = refl; long = λ v b. own-long _; delivered = λ v g b h. each-words (dealt-words v b h); made = λ v g b h. dealt-words v b h }
     where
       dealt-words : (v : ℕ) (b : Tapes) → Contents m (counts 2 0 0 0) b → AreWords m (store m .result v b)
       dealt-words v b h =
@@ -172,6 +189,7 @@ module _ (m : ℕ) (pos : 0 < m) where
   unfolding reshare
   reshare-counts = record {
     drawn = refl;
+    long = λ s b. own-long _;
     delivered = λ s g b h. next-words (drawn-words 0 (omega arith) h);
     made = λ s g b h. fresh-words s (words b 0);
   }
@@ -180,6 +198,7 @@ module _ (m : ℕ) (pos : 0 < m) where
   unfolding opening
   opening-counts = record {
     drawn = refl;
+    long = λ s b. own-long _;
     delivered = λ s g b h.
         followed-by-words (next-words (drawn-words 0 (omega arith) h)) (controller-words (fresh-words s (words b 0)));
     made = λ s g b h. fresh-words s (words b 0);
@@ -189,6 +208,7 @@ module _ (m : ℕ) (pos : 0 < m) where
   unfolding multiply
   multiply-counts = record {
     drawn = refl;
+    long = λ x b. own-long _;
     delivered = λ x g b h.
         followed-by-words (next-words (drawn-words 0 (omega arith) h))
         (followed-by-words (next-words (drawn-words 1 (omega arith) h))
@@ -220,6 +240,7 @@ module _ (m : ℕ) (two-le : 2 ≤ m) where
   unfolding bit
   bit-counts j = record {
     drawn = refl;
+    long = λ u t. own-long _;
     delivered = λ u g t h.
         followed-by-words (two-three-words (m₁₂-word t h) (m₁₃-word u t))
         (followed-by-words (two-three-words (is-word (low-lt (word t one 2))) (is-word (b₁₃-lt t)))
@@ -281,6 +302,7 @@ module _ (n : ℕ) where
   unfolding deal
   deal-counts = record {
     drawn = refl;
+    long = λ u t. own-long _;
     delivered = λ u g t h.
         followed-by-words (two-three-words (drawn-one t h 1 (omega arith)) (sub-lt m m-pos (sub m (u .one) (word t one 0)) (word t one 1)))
         (two-three-words (drawn-one t h 2 (omega arith)) (R₃-word t h));
@@ -308,6 +330,7 @@ module _ (n : ℕ) where
   unfolding exchange
   exchange-counts = record {
     drawn = refl;
+    long = λ d t. own-long _;
     delivered = λ d g t h.
         followed-by-words (next-words (drawn-words 0 (omega arith) h))
         (followed-by-words (next-words (drawn-words 1 (omega arith) h)) (two-three-words (g .v3) (g .v2)));
@@ -318,6 +341,7 @@ module _ (n : ℕ) where
   unfolding round
   round-counts k = record {
     drawn = refl;
+    long = λ h t. own-long _;
     delivered = λ h g t c.
         followed-by-words (next-words (masked-words (width n) (g .p) (g .q)))
         (followed-by-words (next-words (masked-words (width n) (g .s) (g .t)))
@@ -355,6 +379,7 @@ module _ (n : ℕ) where
   unfolding compare
   compare-counts = record {
     drawn = refl;
+    long = λ x t. own-long _;
     delivered = λ x g t h. two-three-words (word-lt (t .one) 0 (h One) (omega arith)) (sub-lt m m-pos (sub m (x .u .one) (x .v .one)) (word t one 0));
     made = λ x g t h. compared-words m m-pos x t;
   }
@@ -363,6 +388,7 @@ module _ (n : ℕ) where
   unfolding begin
   begin-counts = record {
     drawn = refl;
+    long = λ p t. own-long _;
     delivered = λ p g t h. next-words (drawn-words 0 (omega arith) h);
     made = λ p g t h. record { p = g; q = drawn-words 0 (omega arith) h };
   }
@@ -371,6 +397,7 @@ module _ (n : ℕ) where
   unfolding fold
   fold-counts k = record {
     drawn = refl;
+    long = λ h t. own-long _;
     delivered = λ h g t c. followed-by-words (next-words (masked-words (width n) (g .p) (g .q))) (next-words (drawn-words 0 (omega arith) c));
     made = λ h g t c.
         let p = masked (h .p) (h .q) in

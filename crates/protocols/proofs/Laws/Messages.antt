@@ -6,7 +6,8 @@ use native.Mathlib.Nat.{zero-add}
 use native.Mathlib.Numerals.{add-one}
 use native.Mathlib.Omega.{arith}
 use lib.ListN.{length, take, drop, set, getD, replicate, length-append}
-use borrow.Author.Tests.{lt-leb}
+use mathlib.Core.Bool.{true}
+use borrow.Author.Tests.{lt-leb, le-leb}
 use Rattle.protocols.specs.Claims.{MessageHolds}
 use lib.Seq.{sets, sets-eq, paste, paste-suc, length-take-le, set-append-seam, append-snoc, take-append-seam}
 use Rattle.protocols.specs.declared.message.Message.{Message}
@@ -15,7 +16,7 @@ use Rattle.protocols.specs.Place.{Lists, silence, _followed-by_}
 use Rattle.protocols.specs.declared.shares.Shares.{Shares}
 use Rattle.protocols.specs.declared.place.Place.{Place}
 use Rattle.protocols.specs.Protocol.{Answer, done, spent}
-use Rattle.protocols.specs.Outcome.{message, pushed, pushes, append, sent, outcome, continued, wordsOf}
+use Rattle.protocols.specs.Outcome.{message, pushed, pushes, append, sent, outcome, continued, wordsOf, delivery, delivered}
 
 -- ---- words after words
 
@@ -61,13 +62,22 @@ pushes-room l (w ∷ r) k h =
     ∙ pushes-room (l ++ (w ∷ [])) r k (omega arith)
     ∙ ap (λ (x : List ℕ). room x k) (append-assoc l (w ∷ []) r))
 
+delivers : (x : Message) (l : List ℕ) → x .count ≡ length l → wordsOf x ≡ l → (tail : List ℕ) → length l ≤ 28 → length l ≤ length tail
+    → delivered x tail ≡ delivery true (sets tail 0 l)
+unfolding delivered
+delivers x l counted words tail h f =
+    let taken : take (length l) (x .words) ≡ l = ap (λ (k : ℕ). take k (x .words)) (sym counted) ∙ words in
+    rw (counted, le-leb (length l) 28 h, le-leb (length l) (length tail) f) (ap (λ (w : List ℕ). delivery true (sets tail 0 w)) taken)
+
 pub message-holds : (l : List ℕ) → length l ≤ 28 → MessageHolds l
 unfolding message room
 message-holds l h =
     let k = 28 - length l in
     let e : length l + k ≡ 28 = omega arith in
     let g : message l ≡ room l k = ap (λ (n : ℕ). pushes (room [] n) l) (sym e) ∙ pushes-room [] l k (omega arith) in
-    record { counted = ap (λ (x : Message). x .count) g; words = ap wordsOf g ∙ take-append-seam l (replicate k 0) }
+    let counted : message l .count ≡ length l = ap (λ (x : Message). x .count) g in
+    let words : wordsOf (message l) ≡ l = ap wordsOf g ∙ take-append-seam l (replicate k 0) in
+    record { counted = counted; words = words; delivers = λ tail f. delivers (message l) l counted words tail h f }
 
 -- ---- a copy, word by word
 

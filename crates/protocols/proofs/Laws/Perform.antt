@@ -16,7 +16,7 @@ use Rattle.protocols.specs.declared.shares.Shares.{Shares}
 use Rattle.protocols.specs.Shares.{one, shares}
 use Rattle.protocols.specs.Place.{Tapes, Lists, lists, word, words, counts, plus, cut, rest, advance, tapeNumber, enough, block, _followed-by_, silence}
 use Rattle.protocols.specs.Draws.{eachCase, drawEach, pairsCase, drawPairs, tripleCase, drawTriple, doubleCase, drawDouble}
-use Rattle.protocols.specs.Protocol.{Protocol, _then_, repeated, locally, Answer, done, spent, perform}
+use Rattle.protocols.specs.Protocol.{Protocol, _then_, repeated, locally, on, Answer, done, spent, perform}
 use Rattle.protocols.specs.Claims.{OnTapes}
 use Rattle.protocols.proofs.Laws.Draws.{after-each, after-pairs, after-triple, after-double, enough-true, enough-false, Agree, enough-agree, block-agree, enough-plus, cut-block, rest-block, advance-plus}
 
@@ -181,6 +181,10 @@ module _ {S T Z : Type 0} (f : Protocol S T) (g : Protocol T Z) (s : S) (p : Pla
   then-done e = perform-then f g s p t ∙ ap (λ (a : Answer T). and-then a (λ x l q. preceded l (perform g x q t))) e
 
 -- ---- tapes that are not drawn from
+
+pub perform-on : {S T Z : Type 0} (part : S → T) (f : Protocol T Z) (s : S) (p : Place) (t : Tapes) → perform (on part f) s p t ≡ perform f (part s) p t
+unfolding perform
+perform-on part f s p t = refl
 
 pub perform-agree : {S T : Type 0} (f : Protocol S T) (s : S) (p : Place) (t t′ : Tapes) → Agree (f .draws) t t′ → perform f s p t ≡ perform f s p t′
 unfolding perform

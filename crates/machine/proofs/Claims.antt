@@ -1,0 +1,34 @@
+-- The claims of specs/Claims.antt, proved.
+use mathlib.Core.Path.{refl}
+use Rattle.machine.specs.Claims.{Claims, TableAt32}
+use Rattle.machine.proofs.Laws.Refusals.{entry-1}
+use Rattle.machine.proofs.Laws.Agree.{entry-2}
+use Rattle.machine.proofs.Laws.RunAgree.{throughout, run-agrees}
+use Rattle.machine.proofs.Laws.Steps.{never-spent}
+
+-- by computation
+table-at-32 : TableAt32
+table-at-32 = record {
+  store = (refl, refl);
+  add = (refl, refl);
+  subtract = (refl, refl);
+  add-constant = (refl, refl);
+  times-constant = (refl, refl);
+  multiply = (refl, refl);
+  reshare = (refl, refl);
+  bits = (refl, refl);
+  bit = (refl, refl);
+  equal = (refl, refl);
+  opening = (refl, refl);
+  below = (refl, refl);
+}
+
+pub claims : Claims
+claims = record {
+  table-at-32 = table-at-32;
+  entry-1 = entry-1;
+  entry-2 = entry-2;
+  entry-2-throughout = throughout;
+  entry-2-run = run-agrees;
+  never-spent = never-spent;
+}

@@ -1,0 +1,11 @@
+-- Laws of the definitions, one topic to a file.
+pub mod KindTest
+pub mod Accepted
+pub mod Steps
+pub mod Tests
+pub mod Refusals
+pub mod Entries
+pub mod Agree
+pub mod RunAgree
+pub mod Play
+pub mod Effect

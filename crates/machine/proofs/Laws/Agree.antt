@@ -1,0 +1,485 @@
+-- One command: the shares after it combine to what the register machine holds.
+use Prim.Native.Nat.{ℕ, zero, suc, _+_, _-_, _≤_, _<_}
+use mathlib.Core.Path.{_≡_, refl, sym, ap, ap₂, _∙_, subst}
+use mathlib.Core.Bool.{Bool, true, false, cond, _&&_, and-false}
+use mathlib.Core.List.{List, [], _∷_, _++_, map}
+use native.Mathlib.Nat.{le-refl, add-zero}
+use native.Mathlib.Numerals.{add-one}
+use native.Mathlib.Omega.{arith}
+use borrow.Author.Tests.{ltb-true, leb-true, eqb-true, ne-eqb}
+use lib.ListN.{length, getD, take}
+use lib.Seq.{take-take, getD-take, length-sets}
+use lib.Dec.{T, ltb, leb, eqb, ltb→lt, lit<, lit≤}
+use lib.Pow.{pow-pos}
+use Rattle.protocols.specs.declared.place.Drawn.{Drawn}
+use Rattle.protocols.specs.declared.place.Place.{Place}
+use Rattle.protocols.specs.declared.shares.Shares.{Shares}
+use Rattle.protocols.specs.Word.{width, modulus, add, sub, mul, bitAt}
+use Rattle.protocols.specs.Shares.{Miner, one, two, three, at, each, sumOf}
+use Rattle.protocols.specs.Place.{Tapes, Lists, Receiver, controller, list, block}
+use Rattle.protocols.specs.Contents.{Below as AllBelow, Contents}
+use Rattle.protocols.specs.Counts.{received, due}
+use Rattle.protocols.proofs.Laws.Blocks.{block-contents}
+use Rattle.machine.specs.declared.code.Code.{Code}
+use Rattle.machine.specs.declared.code.Code.the-variants.{Store, Add, Subtract, AddConstant, TimesConstant, Multiply, Reshare, Bits, Bit, Equal, Open, Below}
+use Rattle.machine.specs.declared.code.Lookup.{Lookup}
+use Rattle.machine.specs.declared.code.Lookup.the-variants.{Found, Missing}
+use Rattle.machine.specs.declared.row.Use.{Use}
+use Rattle.machine.specs.declared.row.Use.the-variants.{Unused, Handle, Word, Position}
+use Rattle.machine.specs.declared.row.Row.{Row}
+use Rattle.machine.specs.declared.lent.Sizes.{Sizes}
+use Rattle.machine.specs.declared.judge.Verdict.{Verdict}
+use Rattle.machine.specs.declared.judge.Verdict.the-variants.{Accepted, Refused}
+use Rattle.machine.specs.declared.given.Given.{Given}
+use Rattle.machine.specs.declared.code.Command.{Command}
+use Rattle.machine.specs.Table.{find, row, opens}
+use Rattle.machine.specs.Lent.{table, Lent, lent, tapeLengths, sizes, entry, sharesAt, Filled, AreWords}
+use Rattle.machine.specs.Verdict.{number, test, sameLength, within, areKinds, sound, meets, filled, unusedZero, handlesFilled, kindsFit, inWord, tablesHave, inputsHave, tapesHave, listsHave, judged, looked-up, verdict}
+use Rattle.machine.specs.Steps.{protocol}
+use Rattle.machine.specs.Command.{Outcome, moved, given, opened, put, withShares, written, accepted, decided, command}
+use Rattle.machine.specs.Registers.{Register, register, Registers, registers, named, value, grown, judge, after, step, shown}
+use Rattle.machine.specs.Start.{combined, registerOf, upTo, start}
+use Rattle.machine.specs.Run.{isOpen}
+use Rattle.machine.specs.Claims.{Appended, Opened, Entry2}
+use Rattle.machine.proofs.Laws.Accepted.{both, Passed, all-passed, has-room}
+use Rattle.machine.proofs.Laws.Steps.{GivenAreWords, count-lengths, steps-counted, steps-combine, open-hands}
+use Rattle.machine.proofs.Laws.Entries.{getD-upTo, upTo-same, map-upTo, upTo-take, entry-set-old, entry-set-new, getD-put, length-put, table-withShares, sets-appended, list-withWords, due-listLengths, below-getD, shares-are-words, below-put, below-sets}
+
+-- ---- the verdict reads no kind but those of filled handles
+
+is-filled : (p : Place) (h : ℕ) → filled p h ≡ true → Filled p h
+is-filled p h e = let t = both (ltb 0 h) (leb h (p .handles)) e in (ltb-true 0 h (t .0), leb-true h (p .handles) (t .1))
+
+-- test 7 comes before test 8
+fits-alike : (h k k′ : Bool) (v : Verdict) → (h ≡ true → k ≡ k′) → test 7 h (test 8 k v) ≡ test 7 h (test 8 k′ v)
+fits-alike true k k′ v e = ap (λ (b : Bool). test 8 b v) (e refl)
+fits-alike false k k′ v e = refl
+
+-- lengths and places come before the kinds
+sound-alike : (a b : Bool) (f : List ℕ → Bool) (v : List ℕ → Verdict) (k k′ : List ℕ) → (a ≡ true → b ≡ true → k ≡ k′)
+    → test 4 (a && (b && f k)) (v k) ≡ test 4 (a && (b && f k′)) (v k′)
+sound-alike true true f v k k′ e = ap (λ (l : List ℕ). test 4 (f l) (v l)) (e refl refl)
+sound-alike true false f v k k′ e = refl
+sound-alike false b f v k k′ e = refl
+
+module _ (n : ℕ) (c : Command) (p : Place) (z : Sizes) (kinds : List ℕ) where
+  field-fits : (u : Use) (h k : ℕ) → meets u true (filled p h) true ≡ true
+      → meets u true (eqb (entry (take (p .handles) kinds) h) k) true ≡ meets u true (eqb (entry kinds h) k) true
+  field-fits Unused h k e = refl
+  field-fits Handle h k e =
+      let f = is-filled p h e in
+      ap (λ (w : ℕ). eqb w k) (getD-take (p .handles) kinds (h - 1) 0 (omega (arith, f .0, f .1)))
+  field-fits Word h k e = refl
+  field-fits Position h k e = refl
+
+  kinds-fit : (x : Row) → handlesFilled x p c ≡ true → kindsFit x (take (p .handles) kinds) c ≡ kindsFit x kinds c
+  kinds-fit x e =
+      let t = both (meets (x .a) true (filled p (c .a)) true) (meets (x .b) true (filled p (c .b)) true) e in
+      ap₂ _&&_ (field-fits (x .a) (c .a) (x .operands) (t .0)) (field-fits (x .b) (c .b) (x .operands) (t .1))
+
+  looked-up-taken : (y : Lookup) → looked-up n y c p z (take (p .handles) kinds) ≡ looked-up n y c p z kinds
+  unfolding judged
+  looked-up-taken (Found x) = ap (test 6 (unusedZero (row n x) c)) (fits-alike (handlesFilled (row n x) p c) _ _ _ (kinds-fit (row n x)))
+  looked-up-taken Missing = refl
+
+  verdict-taken : verdict n c p z (take (p .handles) kinds) ≡ verdict n c p z kinds
+  unfolding verdict
+  verdict-taken =
+      ap₂ (λ (t : Bool) (v : Verdict). test 4 (sameLength z && (within p z && t)) v)
+      (ap areKinds (take-take (p .handles) (p .handles) kinds (le-refl (p .handles)))) (looked-up-taken (find (c .code)))
+
+  verdict-alike : (k : List ℕ) → (sameLength z ≡ true → within p z ≡ true → k ≡ take (p .handles) kinds) → verdict n c p z k ≡ verdict n c p z kinds
+  unfolding verdict
+  verdict-alike k e =
+      sound-alike (sameLength z) (within p z) (λ l. areKinds (take (p .handles) l)) (looked-up n (find (c .code)) c p z) k (take (p .handles) kinds) e
+      ∙ verdict-taken
+
+same-lengths : (l : Lent) → sameLength (sizes l) ≡ true → (i : Miner) → length (table i (l .tables)) ≡ length (l .kinds)
+same-lengths l e = by-miner
+  where
+    t : Miner → Bool
+    t i = eqb (length (table i (l .tables))) (length (l .kinds))
+
+    by-miner : (i : Miner) → length (table i (l .tables)) ≡ length (l .kinds)
+    by-miner one = eqb-true _ _ (both (t one) _ e .0)
+    by-miner two = eqb-true _ _ (both (t two) (t three) (both (t one) _ e .1) .0)
+    by-miner three = eqb-true _ _ (both (t two) (t three) (both (t one) _ e .1) .1)
+
+-- the register machine's verdict is the command's
+judge-same : (n : ℕ) (c : Command) (p : Place) (l : Lent) → judge n c (sizes l) (start n p l) ≡ verdict n c p (sizes l) (l .kinds)
+unfolding start
+judge-same n c p l = verdict-alike n c p (sizes l) (l .kinds) (map (λ r. r .kind) (upTo (p .handles) (registerOf n l))) kinds-held
+  where
+    kinds-held : sameLength (sizes l) ≡ true → within p (sizes l) ≡ true → map (λ r. r .kind) (upTo (p .handles) (registerOf n l)) ≡ take (p .handles) (l .kinds)
+    kinds-held a b =
+        map-upTo (λ r. r .kind) (p .handles) (registerOf n l)
+        ∙ upTo-take (p .handles) (l .kinds) (omega (arith, same-lengths l a one, leb-true (p .handles) (length (l .tables .one)) (both _ _ b .0)))
+
+-- ---- every refusal's number is above 0
+
+AboveZero : Verdict → Type 0
+AboveZero (Accepted x) = Unit {0}
+AboveZero (Refused r) = 0 < r
+
+test-above : (r : ℕ) → T (ltb 0 r) → (b : Bool) (v : Verdict) → AboveZero v → AboveZero (test r b v)
+unfolding AboveZero
+test-above r h true v k = k
+test-above r h false v k = ltb→lt 0 r h
+
+looked-up-above : (n : ℕ) (y : Lookup) (c : Command) (p : Place) (z : Sizes) (kinds : List ℕ) → AboveZero (looked-up n y c p z kinds)
+unfolding judged
+looked-up-above n (Found x) c p z kinds =
+    let r = row n x in
+    test-above 6 tt (unusedZero r c) _ (test-above 7 tt (handlesFilled r p c) _ (test-above 8 tt (kindsFit r kinds c) _ (test-above 9 tt (inWord n r c) _
+    (test-above 10 tt (tablesHave r p z) _ (test-above 11 tt (inputsHave r p z) _ (test-above 12 tt (tapesHave r p z) _
+    (test-above 13 tt (listsHave r p z) (Accepted x) (unfold AboveZero in tt))))))))
+looked-up-above n Missing c p z kinds = unfold AboveZero in lit< tt
+
+above-zero : (n : ℕ) (c : Command) (p : Place) (z : Sizes) (kinds : List ℕ) (r : ℕ) → verdict n c p z kinds ≡ Refused r → 0 < r
+unfolding verdict AboveZero
+above-zero n c p z kinds r e = subst AboveZero e (test-above 4 tt (sound p z kinds) _ (looked-up-above n (find (c .code)) c p z kinds))
+
+-- ---- the code of open
+
+found-same : {x y : Code} → Found x ≡ Found y → x ≡ y
+found-same {x} e = ap code-of e
+  where
+    code-of : Lookup → Code
+    code-of (Found y) = y
+    code-of Missing = x
+
+missing-not : {x : Code} → Missing ≡ Found x → ⊥
+missing-not e = subst tells e tt
+  where
+    tells : Lookup → Type 0
+    tells (Found x) = ⊥
+    tells Missing = Unit {0}
+
+-- whatever command is found for the code k, it opens just where k is 11
+abbrev OpensAt11 : ℕ → ℕ → Lookup → Type 0
+OpensAt11 n k y = (x : Code) → y ≡ Found x → eqb k 11 ≡ opens n x
+
+at-code : (n k j : ℕ) (y : Code) (rest : Lookup) → eqb j 11 ≡ opens n y → OpensAt11 n k rest → OpensAt11 n k (cond (eqb k j) (Found y) rest)
+at-code n k j y rest h r = by-test (eqb k j) refl
+  where
+    by-test : (b : Bool) → eqb k j ≡ b → OpensAt11 n k (cond b (Found y) rest)
+    by-test true e x f = ap (λ (i : ℕ). eqb i 11) (eqb-true k j e) ∙ h ∙ ap (opens n) (found-same f)
+    by-test false e x f = r x f
+
+opens-at-11 : (n k : ℕ) → OpensAt11 n k (find k)
+opens-at-11 n k =
+    at-code n k 1 Store _ refl (at-code n k 2 Add _ refl (at-code n k 3 Subtract _ refl (at-code n k 4 AddConstant _ refl
+    (at-code n k 5 TimesConstant _ refl (at-code n k 6 Multiply _ refl (at-code n k 7 Reshare _ refl (at-code n k 8 Bits _ refl
+    (at-code n k 9 Bit _ refl (at-code n k 10 Equal _ refl (at-code n k 11 Open _ refl (at-code n k 12 Below _ refl
+    (λ x f. absurd (missing-not f)))))))))))))
+
+-- ---- registers of filled handles, and the operands' words
+
+named-start : (n : ℕ) (p : Place) (l : Lent) (h : ℕ) → Filled p h → named (start n p l .held) h ≡ registerOf n l h
+unfolding start
+named-start n p l h f = getD-upTo (p .handles) (registerOf n l) (register 0 0) h (f .0) (f .1)
+
+-- a register that is the one of handle h holds what the shares of h give
+register-combines : (n : ℕ) (l : Lent) (h : ℕ) (r : Register) → registerOf n l h ≡ r
+    → (entry (l .kinds) h ≡ r .kind) × (combined (modulus n) (r .kind) (sharesAt (l .tables) h) ≡ r .word)
+register-combines n l h r e =
+    (ap (λ (q : Register). q .kind) e, subst (λ (q : Register). combined (modulus n) (q .kind) (sharesAt (l .tables) h) ≡ q .word) e refl)
+
+-- the same word, where the field names a handle
+abbrev SameIfHandle : Use → ℕ → ℕ → Type 0
+SameIfHandle Unused x y = Unit {0}
+SameIfHandle Handle x y = x ≡ y
+SameIfHandle Word x y = Unit {0}
+SameIfHandle Position x y = Unit {0}
+
+value-same : (n : ℕ) (x : Code) (u u′ v v′ b input : ℕ) → SameIfHandle (row n x .a) u u′ → SameIfHandle (row n x .b) v v′
+    → value n x u v b input ≡ value n x u′ v′ b input
+value-same n Store u u′ v v′ b input e f = refl
+value-same n Add u u′ v v′ b input e f = ap₂ (add (modulus n)) e f
+value-same n Subtract u u′ v v′ b input e f = ap₂ (sub (modulus n)) e f
+value-same n AddConstant u u′ v v′ b input e f = ap (λ (w : ℕ). add (modulus n) w b) e
+value-same n TimesConstant u u′ v v′ b input e f = ap (λ (w : ℕ). mul (modulus n) w b) e
+value-same n Multiply u u′ v v′ b input e f = ap₂ (mul (modulus n)) e f
+value-same n Reshare u u′ v v′ b input e f = e
+value-same n Bits u u′ v v′ b input e f = e
+value-same n Bit u u′ v v′ b input e f = ap (λ (w : ℕ). bitAt w b) e
+value-same n Equal u u′ v v′ b input e f = ap₂ (λ (w z : ℕ). cond (eqb w z) 1 0) e f
+value-same n Open u u′ v v′ b input e f = e
+value-same n Below u u′ v v′ b input e f = ap₂ (λ (w z : ℕ). bitAt (sub (modulus n) w z) (width n - 1)) e f
+
+operand-word : (n : ℕ) (p : Place) (l : Lent) (u : Use) (h k : ℕ) → meets u true (filled p h) true ≡ true
+    → meets u true (eqb (entry (l .kinds) h) k) true ≡ true
+    → SameIfHandle u (combined (modulus n) k (sharesAt (l .tables) h)) (named (start n p l .held) h .word)
+operand-word n p l Unused h k e f = tt
+operand-word n p l Handle h k e f =
+    ap (λ (j : ℕ). combined (modulus n) j (sharesAt (l .tables) h)) (sym (eqb-true (entry (l .kinds) h) k f))
+    ∙ ap (λ (r : Register). r .word) (sym (named-start n p l h (is-filled p h e)))
+operand-word n p l Word h k e f = tt
+operand-word n p l Position h k e f = tt
+
+-- ---- one register more
+
+values-at-most-1 : (n : ℕ) (x : Code) → row n x .values ≤ 1
+values-at-most-1 n Store = lit≤ tt
+values-at-most-1 n Add = lit≤ tt
+values-at-most-1 n Subtract = lit≤ tt
+values-at-most-1 n AddConstant = lit≤ tt
+values-at-most-1 n TimesConstant = lit≤ tt
+values-at-most-1 n Multiply = lit≤ tt
+values-at-most-1 n Reshare = lit≤ tt
+values-at-most-1 n Bits = lit≤ tt
+values-at-most-1 n Bit = lit≤ tt
+values-at-most-1 n Equal = lit≤ tt
+values-at-most-1 n Open = lit≤ tt
+values-at-most-1 n Below = lit≤ tt
+
+register-same : (n : ℕ) {k k′ : ℕ} {f g : Miner → ℕ} → k ≡ k′ → ((i : Miner) → f i ≡ g i)
+    → register (combined (modulus n) k (each f)) k ≡ register (combined (modulus n) k′ (each g)) k′
+register-same n e h = λ i. register (combined (modulus n) (e i) (each (λ j. h j i))) (e i)
+
+-- shares s of kind k are written behind h handles
+module _ (n : ℕ) (l : Lent) (h : ℕ) (s : Shares) (k : ℕ) (r : Lists) where
+  abbrev with-value : ℕ → Lent
+  with-value v = lent (withShares v (l .tables) h s) (put v (l .kinds) h k) (l .inputs) (l .tapes) r
+
+  old-register : (g : ℕ) → 1 ≤ g → g ≤ h → registerOf n (with-value 1) g ≡ registerOf n l g
+  old-register g a b = register-same n (entry-set-old (l .kinds) h k g a b) (λ i. entry-set-old (table i (l .tables)) h (at i s) g a b)
+
+  new-register : ((i : Miner) → h < length (table i (l .tables))) → h < length (l .kinds)
+      → registerOf n (with-value 1) (suc h) ≡ register (combined (modulus n) k s) k
+  new-register a b = register-same n (entry-set-new (l .kinds) h k b) (λ i. entry-set-new (table i (l .tables)) h (at i s) (a i))
+
+  registers-grow : (v : ℕ) → v ≤ 1 → ((i : Miner) → h + v ≤ length (table i (l .tables))) → h + v ≤ length (l .kinds)
+      → upTo (h + v) (registerOf n (with-value v)) ≡ grown v (upTo h (registerOf n l)) (register (combined (modulus n) k s) k)
+  unfolding upTo
+  registers-grow zero i a b = ap (λ (w : ℕ). upTo w (registerOf n l)) (add-zero h)
+  registers-grow (suc zero) i a b =
+      ap (λ (w : ℕ). upTo w (registerOf n (with-value 1))) (add-one h)
+      ∙ ap₂ (λ (g : List Register) (q : Register). g ++ (q ∷ [])) (upTo-same h (registerOf n (with-value 1)) (registerOf n l) old-register)
+      (new-register (λ j. omega (arith, a j)) (omega arith))
+  registers-grow (suc (suc v)) i a b = absurd (omega arith)
+
+-- ---- an accepted command
+
+given-are-words : (n : ℕ) (c : Command) (p : Place) (l : Lent) → AreWords (modulus n) l → GivenAreWords (modulus n) (given (l .tables) (l .inputs) p c)
+given-are-words n c p l w =
+    let m = modulus n in
+    let above = pow-pos (width n) in
+    (below-getD m (l .inputs) (p .inputs) above (w .inputs), shares-are-words m (l .tables) (c .a) above (w .tables), shares-are-words m (l .tables) (c .b) above (w .tables))
+
+module _ (n : ℕ) (c : Command) (p : Place) (l : Lent) (x : Code) where
+  -- what the command takes, draws, makes, sends and leaves
+  abbrev takes : Given
+  takes = given (l .tables) (l .inputs) p c
+
+  abbrev draws : Tapes
+  draws = block (protocol n x (c .b) .draws) p (l .tapes)
+
+  abbrev makes : Shares
+  makes = protocol n x (c .b) .result takes draws
+
+  abbrev sends : Lists
+  sends = protocol n x (c .b) .received takes draws
+
+  abbrev leaves : Lent
+  leaves = written (row n x) p makes sends l
+
+  sizes-left : sizes leaves ≡ sizes l
+  sizes-left =
+      let v = row n x .values in
+      let t = l .tables in
+      let r = l .received in
+      λ i. record {
+        one = length-put v (t .one) (p .handles) (makes .one) i;
+        two = length-put v (t .two) (p .handles) (makes .two) i;
+        three = length-put v (t .three) (p .handles) (makes .three) i;
+        kinds = length-put v (l .kinds) (p .handles) (row n x .kind) i;
+        inputs = length (l .inputs);
+        tapes = tapeLengths (l .tapes);
+        received = received (length-sets (r .one) (p .received .one) (sends .one) i) (length-sets (r .two) (p .received .two) (sends .two) i)
+            (length-sets (r .three) (p .received .three) (sends .three) i) (length-sets (r .controller) (p .received .controller) (sends .controller) i);
+      }
+
+  table-left : (i : Miner) → table i (leaves .tables) ≡ put (row n x .values) (table i (l .tables)) (p .handles) (at i makes)
+  table-left i = table-withShares i (row n x .values) (l .tables) (p .handles) makes
+
+  module _ (w : AreWords (modulus n) l) (a : Passed n x c p (sizes l) (l .kinds)) where
+    drawn-words : Contents (modulus n) (protocol n x (c .b) .draws) draws
+    drawn-words =
+        subst (λ (d : Drawn). Contents (modulus n) d (block d p (l .tapes))) (sym (steps-counted n x (c .b) .drawn))
+        (block-contents (modulus n) (row n x .drawn) p (l .tapes) (w .tapes) (λ i. omega (arith, has-room a .drawn i, count-lengths i (l .tapes))))
+
+    words-left : AreWords (modulus n) leaves
+    words-left = record {
+      tables = λ i. subst (AllBelow (modulus n)) (sym (table-left i))
+          (below-put (modulus n) (row n x .values) (table i (l .tables)) (p .handles) (at i makes) (w .tables i)
+          (steps-counted n x (c .b) .made takes (given-are-words n c p l w) draws drawn-words i));
+      inputs = w .inputs;
+      tapes = w .tapes;
+      received = λ r. subst (AllBelow (modulus n)) (sym (list-withWords r (l .received) p sends))
+          (below-sets (modulus n) (list r (l .received)) (due r (p .received)) (list r sends) (w .received r)
+          (steps-counted n x (c .b) .delivered takes (given-are-words n c p l w) draws drawn-words r .below));
+    }
+
+    -- the words sent stand behind those that each list held
+    appended : (r : Receiver) → Appended (list r (l .received)) (due r (p .received)) (list r sends) (list r (leaves .received))
+    appended r =
+        list-withWords r (l .received) p sends
+        ∙ sets-appended (list r (l .received)) (due r (p .received)) (list r sends)
+        (omega (arith, has-room a .received r, due-listLengths r (l .received), steps-counted n x (c .b) .long takes draws r))
+
+    -- the new shares give the register machine's value
+    new-word : combined (modulus n) (row n x .kind) makes
+        ≡ value n x (named (start n p l .held) (c .a) .word) (named (start n p l .held) (c .b) .word) (c .b) (getD (l .inputs) (p .inputs) 0)
+    new-word =
+        let y = row n x in
+        let k = l .kinds in
+        let f = both (meets (y .a) true (filled p (c .a)) true) (meets (y .b) true (filled p (c .b)) true) (a .seven) in
+        let g = both (meets (y .a) true (eqb (entry k (c .a)) (y .operands)) true) (meets (y .b) true (eqb (entry k (c .b)) (y .operands)) true) (a .eight) in
+        steps-combine n x (c .b) takes draws (given-are-words n c p l w) drawn-words
+        ∙ value-same n x _ _ _ _ (c .b) (getD (l .inputs) (p .inputs) 0) (operand-word n p l (y .a) (c .a) (y .operands) (f .0) (g .0))
+        (operand-word n p l (y .b) (c .b) (y .operands) (f .1) (g .1))
+
+    start-accepted : start n (moved p (row n x)) leaves ≡ after n (Accepted x) c (l .inputs) (start n p l)
+    unfolding start
+    start-accepted = λ i. registers (held i) (moved p (row n x))
+      where
+        same : (i : Miner) → length (table i (l .tables)) ≡ length (l .kinds)
+        same = same-lengths l (both _ _ (a .four) .0)
+
+        fits : p .handles + row n x .values ≤ length (l .kinds)
+        fits = omega (arith, has-room a .handles, same one)
+
+        held : upTo (p .handles + row n x .values) (registerOf n leaves) ≡ after n (Accepted x) c (l .inputs) (start n p l) .held
+        held =
+            registers-grow n l (p .handles) makes (row n x .kind) (leaves .received) (row n x .values) (values-at-most-1 n x) (λ i. omega (arith, fits, same i)) fits
+            ∙ ap (λ (u : ℕ). grown (row n x .values) (start n p l .held) (register u (row n x .kind))) new-word
+
+-- ---- a command, accepted or refused
+
+-- what it leaves as it was; the laws `-by` go by the verdict
+record Kept (n : ℕ) (p : Place) (l : Lent) (o : Outcome) : Type 0 where
+  tables-kept : (i : Miner) (k : ℕ) → ¬ (k ≡ p .handles) → getD (table i (o .lent .tables)) k 0 ≡ getD (table i (l .tables)) k 0
+  kinds-kept : (k : ℕ) → ¬ (k ≡ p .handles) → getD (o .lent .kinds) k 0 ≡ getD (l .kinds) k 0
+  inputs-kept : o .lent .inputs ≡ l .inputs
+  tapes-kept : o .lent .tapes ≡ l .tapes
+  sizes-kept : sizes (o .lent) ≡ sizes l
+  words : AreWords (modulus n) (o .lent)
+
+module _ (n : ℕ) (c : Command) (p : Place) (l : Lent) where
+  abbrev decision : Verdict
+  decision = verdict n c p (sizes l) (l .kinds)
+
+  has-passed : (x : Code) → decision ≡ Accepted x → Passed n x c p (sizes l) (l .kinds)
+  has-passed x = all-passed n x c p (sizes l) (l .kinds)
+
+  command-accepts : (x : Code) → decision ≡ Accepted x → command n c p l ≡ accepted n x c p l
+  unfolding command
+  command-accepts x e = ap (λ (v : Verdict). decided n v c p l) e
+
+  number-decided : (v : Verdict) → decided n v c p l .answer .number ≡ number v
+  unfolding accepted
+  number-decided (Accepted x) = refl
+  number-decided (Refused r) = refl
+
+  code-opens : (x : Code) → decision ≡ Accepted x → eqb (c .code) 11 ≡ opens n x
+  code-opens x e = opens-at-11 n (c .code) x (has-passed x e .known)
+
+  accepts-open : (x : Code) → decision ≡ Accepted x → c .code ≡ 11 → decision ≡ Accepted Open
+  accepts-open x e f = e ∙ ap Accepted (found-same (sym (has-passed x e .known) ∙ ap find f))
+
+  not-opened-by : (v : Verdict) → decision ≡ v → ¬ (c .code ≡ 11) → decided n v c p l .answer .opened ≡ 0
+  unfolding accepted
+  not-opened-by (Accepted x) e f = ap (λ (b : Bool). cond b (sumOf (modulus n) (makes n c p l x)) 0) (sym (code-opens x e) ∙ ne-eqb (c .code) 11 f)
+  not-opened-by (Refused r) e f = refl
+
+  module _ (w : AreWords (modulus n) l) where
+    kept-by : (v : Verdict) → decision ≡ v → Kept n p l (decided n v c p l)
+    unfolding accepted
+    kept-by (Accepted x) e = record {
+      tables-kept = λ i k h. ap (λ (t : List ℕ). getD t k 0) (table-left n c p l x i)
+          ∙ getD-put (row n x .values) (table i (l .tables)) (p .handles) (at i (makes n c p l x)) k h;
+      kinds-kept = getD-put (row n x .values) (l .kinds) (p .handles) (row n x .kind);
+      inputs-kept = refl;
+      tapes-kept = refl;
+      sizes-kept = sizes-left n c p l x;
+      words = words-left n c p l x w (has-passed x e);
+    }
+    kept-by (Refused r) e = record { tables-kept = λ i k h. refl; kinds-kept = λ k h. refl; inputs-kept = refl; tapes-kept = refl; sizes-kept = refl; words = w }
+
+    appended-by : (x : Code) → decision ≡ Accepted x → (r : Receiver)
+        → Appended (list r (l .received)) (due r (p .received)) (list r (sends n c p l x)) (list r (command n c p l .lent .received))
+    unfolding accepted
+    appended-by x e r = ap (λ (o : Outcome). list r (o .lent .received)) (command-accepts x e) ∙ appended n c p l x w (has-passed x e) r
+
+    -- the registers
+    start-by : (v : Verdict) → decision ≡ v → start n (decided n v c p l .answer .place) (decided n v c p l .lent) ≡ after n v c (l .inputs) (start n p l)
+    unfolding accepted
+    start-by (Accepted x) e = start-accepted n c p l x w (has-passed x e)
+    start-by (Refused r) e = refl
+
+    pub start-after : start n (command n c p l .answer .place) (command n c p l .lent) ≡ step n c (sizes l) (l .inputs) (start n p l)
+    unfolding command step
+    start-after = start-by decision refl ∙ ap (λ (v : Verdict). after n v c (l .inputs) (start n p l)) (sym (judge-same n c p l))
+
+    -- the opened word
+    accepted-open : decision ≡ Accepted Open → Opened n c p l
+    unfolding accepted
+    accepted-open e =
+        let is-held = new-word n c p l Open w (has-passed Open e) in
+        record {
+          shares = makes n c p l Open;
+          handed = subst (λ (s : List ℕ). Appended (l .received .controller) (p .received .controller) s (command n c p l .lent .received .controller))
+              (open-hands n (c .b) (takes n c p l Open) (draws n c p l Open)) (appended-by Open e controller);
+          add-up = is-held;
+          told = ap (λ (o : Outcome). o .answer .opened) (command-accepts Open e) ∙ is-held;
+        }
+
+    opened-by : (v : Verdict) → decision ≡ v → c .code ≡ 11 → number v ≡ 0 → Opened n c p l
+    opened-by (Accepted x) e f k = accepted-open (accepts-open x e f)
+    opened-by (Refused r) e f k = absurd (omega (arith, above-zero n c p (sizes l) (l .kinds) r e))
+
+    shown-by : (v : Verdict) → decision ≡ v
+        → cond (isOpen c (decided n v c p l .answer)) (decided n v c p l .answer .opened ∷ []) [] ≡ shown n v c (start n p l)
+    unfolding accepted
+    shown-by (Accepted x) e = by-code (eqb (c .code) 11) refl ∙ ap (λ (b : Bool). cond b (named (start n p l .held) (c .a) .word ∷ []) []) (code-opens x e)
+      where
+        by-code : (b : Bool) → eqb (c .code) 11 ≡ b
+            → cond (b && true) (opened n x (makes n c p l x) ∷ []) [] ≡ cond b (named (start n p l .held) (c .a) .word ∷ []) []
+        by-code true f = ap (λ (u : ℕ). u ∷ [])
+            (ap (λ (o : Outcome). o .answer .opened) (sym (command-accepts x e)) ∙ accepted-open (accepts-open x e (eqb-true (c .code) 11 f)) .told)
+        by-code false f = refl
+    shown-by (Refused r) e =
+        ap (λ (b : Bool). cond (eqb (c .code) 11 && b) (0 ∷ []) []) (ne-eqb r 0 (λ f. omega (arith, above-zero n c p (sizes l) (l .kinds) r e)))
+        ∙ ap (λ (b : Bool). cond b (0 ∷ []) []) (and-false (eqb (c .code) 11))
+
+    pub shown-after : cond (isOpen c (command n c p l .answer)) (command n c p l .answer .opened ∷ []) [] ≡ shown n (judge n c (sizes l) (start n p l)) c (start n p l)
+    unfolding command
+    shown-after = shown-by decision refl ∙ ap (λ (v : Verdict). shown n v c (start n p l)) (sym (judge-same n c p l))
+
+-- ---- entry 2
+
+pub entry-2 : (n : ℕ) (c : Command) (p : Place) (l : Lent) → AreWords (modulus n) l → Entry2 n c p l
+unfolding command start
+entry-2 n c p l w =
+    let v = decision n c p l in
+    let o = command n c p l in
+    let k = kept-by n c p l w v refl in
+    record {
+      same-number = number-decided n c p l v ∙ ap number (sym (judge-same n c p l));
+      same-place = ap (λ (m : Registers). m .place) (start-after n c p l w);
+      combine = λ h f. register-combines n (o .lent) h (named (step n c (sizes l) (l .inputs) (start n p l) .held) h)
+          (sym (named-start n (o .answer .place) (o .lent) h f) ∙ ap (λ (m : Registers). named (m .held) h) (start-after n c p l w));
+      counts = λ x e. let f = steps-counted n x (c .b) in record {
+        drawn = f .drawn;
+        grown = λ r. (list r (sends n c p l x), f .long (takes n c p l x) (draws n c p l x) r, appended-by n c p l w x e r);
+      };
+      opened = λ f e. opened-by n c p l w v refl f (sym (number-decided n c p l v) ∙ e);
+      not-opened = not-opened-by n c p l v refl;
+      tables-kept = k .tables-kept;
+      kinds-kept = k .kinds-kept;
+      inputs-kept = k .inputs-kept;
+      tapes-kept = k .tapes-kept;
+      sizes-kept = k .sizes-kept;
+      words = k .words;
+    }

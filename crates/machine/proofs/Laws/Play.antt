@@ -1,0 +1,106 @@
+-- A protocol that is lent only the tapes that it draws from, and what an accepted command's protocol does.
+use Prim.Native.Nat.{ℕ, _+_, _-_, _<_, _≤_}
+use mathlib.Core.Path.{_≡_, refl, sym, ap, ap₂, _∙_, subst}
+use mathlib.Core.List.{List, []}
+use native.Mathlib.Omega.{arith}
+use lib.ListN.{length}
+use Rattle.protocols.specs.declared.place.Party.{Party}
+use Rattle.protocols.specs.declared.place.Party.the-variants.{Provider, One, Two, Three}
+use Rattle.protocols.specs.declared.place.Drawn.{Drawn}
+use Rattle.protocols.specs.declared.place.Place.{Place}
+use Rattle.protocols.specs.declared.shares.Shares.{Shares}
+use Rattle.protocols.specs.Place.{Tapes, tapes, tape, count, counts, silence, advance, block}
+use Rattle.protocols.specs.Protocol.{Protocol, on, locally, done, perform}
+use Rattle.protocols.specs.Outcome.{outcome}
+use Rattle.protocols.specs.Claims.{Lacks}
+use Rattle.protocols.proofs.Claims.{claims}
+use Rattle.protocols.proofs.Laws.Blocks.{block-same}
+use Rattle.protocols.proofs.Laws.Perform.{perform-on, perform-locally}
+use Rattle.protocols.specs.declared.outcome.Outcome.{Outcome}
+use Rattle.machine.specs.declared.code.Code.{Code}
+use Rattle.machine.specs.declared.code.Command.{Command}
+use Rattle.machine.specs.declared.row.Row.{Row}
+use Rattle.machine.specs.declared.effect.Effect.{Effect}
+use Rattle.machine.specs.declared.given.Given.{Given}
+use Rattle.machine.specs.Table.{row}
+use Rattle.machine.specs.Lent.{Tables}
+use Rattle.machine.specs.Steps.{protocol}
+use Rattle.machine.specs.Command.{moved, given}
+use Rattle.machine.specs.Effect.{Ready, counted, openedBy, accepted}
+use Rattle.machine.proofs.Laws.Steps.{steps-counted}
+
+-- ---- on all four tapes
+
+-- draws so many words of each tape
+abbrev Draws : {S T : Type 0} → Protocol S T → ℕ → ℕ → ℕ → ℕ → Type 0
+Draws f i j k m = f .draws ≡ counts i j k m
+
+module _ {S Z : Type 0} (part : S → Z) (f : Protocol Z Shares) (s : S) (p : Place) (w x y z : List ℕ) where
+  -- the outcome on tapes u that agree, where words are drawn, with the four
+  lent-to : (u : Tapes) → ((i : Party) → 0 < count i (f .draws) → tape i u ≡ tape i (tapes w x y z))
+      → outcome p (perform f (part s) p u) ≡ outcome p (perform (on part f) s p (tapes w x y z))
+  lent-to u e = ap (outcome p) (claims .on-tapes f (part s) p u .other-tapes (tapes w x y z) e ∙ sym (perform-on part f s p (tapes w x y z)))
+
+  pub lent-provider : {i : ℕ} → Draws f i 0 0 0 → outcome p (perform f (part s) p (tapes w [] [] [])) ≡ outcome p (perform (on part f) s p (tapes w x y z))
+  lent-provider d = lent-to (tapes w [] [] []) agree
+    where
+      agree : (i : Party) → 0 < count i (f .draws) → tape i (tapes w [] [] []) ≡ tape i (tapes w x y z)
+      agree Provider h = refl
+      agree One h = absurd (omega (arith, h, ap (count One) d))
+      agree Two h = absurd (omega (arith, h, ap (count Two) d))
+      agree Three h = absurd (omega (arith, h, ap (count Three) d))
+
+  pub lent-one : {i : ℕ} → Draws f 0 i 0 0 → outcome p (perform f (part s) p (tapes [] x [] [])) ≡ outcome p (perform (on part f) s p (tapes w x y z))
+  lent-one d = lent-to (tapes [] x [] []) agree
+    where
+      agree : (i : Party) → 0 < count i (f .draws) → tape i (tapes [] x [] []) ≡ tape i (tapes w x y z)
+      agree Provider h = absurd (omega (arith, h, ap (count Provider) d))
+      agree One h = refl
+      agree Two h = absurd (omega (arith, h, ap (count Two) d))
+      agree Three h = absurd (omega (arith, h, ap (count Three) d))
+
+  pub lent-miners : {i j k : ℕ} → Draws f 0 i j k → outcome p (perform f (part s) p (tapes [] x y z)) ≡ outcome p (perform (on part f) s p (tapes w x y z))
+  lent-miners d = lent-to (tapes [] x y z) agree
+    where
+      agree : (i : Party) → 0 < count i (f .draws) → tape i (tapes [] x y z) ≡ tape i (tapes w x y z)
+      agree Provider h = absurd (omega (arith, h, ap (count Provider) d))
+      agree One h = refl
+      agree Two h = refl
+      agree Three h = refl
+
+pub lent-nothing : {S Z : Type 0} (part : S → Z) (f : Z → Shares) (s : S) (p : Place) (t : Tapes)
+    → outcome p (done (f (part s)) silence p) ≡ outcome p (perform (on part (locally f)) s p t)
+lent-nothing part f s p t = ap (outcome p) (sym (perform-on part (locally f) s p t ∙ perform-locally f (part s) p t))
+
+-- ---- an accepted command
+
+-- with the other counts moved before the draws, the place record is the row's
+pub plays : (x : Code) (b : ℕ) (g : Given) (p : Place) (t : Tapes) → Ready x p t
+    → let f = protocol 5 x b in
+    let w = block (f .draws) p t in
+    perform f g (counted p (row 5 x)) t ≡ done (f .result g w) (f .received g w) (moved p (row 5 x))
+plays x b g p t r =
+    let f = protocol 5 x b in
+    let q = counted p (row 5 x) in
+    let drawn : f .draws ≡ row 5 x .drawn = steps-counted 5 x b .drawn in
+    claims .on-tapes f g q t .done-if (λ i h. never i (subst (λ (d : Drawn). Lacks d q t i) drawn h))
+    ∙ ap₂ (λ (w : Tapes) (d : Drawn). done (f .result g w) (f .received g w) (advance q d)) (block-same (f .draws) q p t refl) drawn
+  where
+    never : (i : Party) → ¬ Lacks (row 5 x .drawn) (counted p (row 5 x)) t i
+    never i h = omega (arith, r .tapes i, h)
+
+-- what is made of a protocol's outcome
+abbrev Made : Row → Outcome → ℕ → Effect
+Made r o w = record { number = o .number; place = o .place; opened = w; values = r .values; kind = r .kind; shares = o .shares; sent = o .sent }
+
+-- from the row, what is given, the place record before the draws, the protocol's outcome and the opened word
+pub accepted-made : (x : Code) (c : Command) (p : Place) (t : Tables) (inputs : List ℕ) (s : Tapes) → Ready x p s
+    → {r : Row} {g : Given} {q : Place} {o : Outcome} {w : ℕ}
+    → r ≡ row 5 x → g ≡ given t inputs p c → q ≡ counted p r → o ≡ outcome q (perform (protocol 5 x (c .b)) g q s) → w ≡ openedBy r (o .shares)
+    → Made r o w ≡ accepted 5 x c p t inputs s
+unfolding accepted
+accepted-made x c p t inputs s h er eg eq eo ew =
+    let at = eq ∙ ap (counted p) er in
+    let done-at = eo ∙ (λ i. outcome (at i) (perform (protocol 5 x (c .b)) (eg i) (at i) s)) ∙ ap (outcome (counted p (row 5 x))) (plays x (c .b) (given t inputs p c) p s h) in
+    let word = ew ∙ (λ i. openedBy (er i) (done-at i .shares)) in
+    λ i. Made (er i) (done-at i) (word i)

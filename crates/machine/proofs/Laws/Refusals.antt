@@ -1,0 +1,335 @@
+-- Entry 1: every command is answered by the table of refusals.
+use Prim.Native.Nat.{ℕ, suc, _-_, _≤_, _<_}
+use mathlib.Core.Path.{_≡_, refl, sym, ap, _∙_, subst}
+use mathlib.Core.Logic.{_↔_, _⊎_, inl, inr}
+use mathlib.Core.Bool.{Bool, cond}
+use native.Mathlib.Omega.{arith}
+use native.Mathlib.Nat.{eq-or-lt-of-le}
+use lib.Dec.{eqb}
+use lib.Pow.{pow-pos}
+use lib.ListN.{length, getD}
+use Rattle.protocols.specs.declared.place.Party.{Party}
+use Rattle.protocols.specs.declared.place.Place.{Place}
+use Rattle.protocols.specs.Word.{width}
+use Rattle.protocols.specs.Shares.{Miner, one}
+use Rattle.protocols.specs.Place.{tape, count, Receiver, list}
+use Rattle.protocols.specs.Counts.{due}
+use Rattle.machine.specs.declared.code.Code.{Code}
+use Rattle.machine.specs.declared.code.Code.the-variants.{Store, Add, Subtract, AddConstant, TimesConstant, Multiply, Reshare, Bits, Bit, Equal, Open, Below}
+use Rattle.machine.specs.declared.code.Lookup.{Lookup}
+use Rattle.machine.specs.declared.code.Lookup.the-variants.{Found, Missing}
+use Rattle.machine.specs.declared.row.Use.the-variants.{Unused, Handle, Position}
+use Rattle.machine.specs.declared.judge.Verdict.{Verdict}
+use Rattle.machine.specs.declared.judge.Verdict.the-variants.{Accepted, Refused}
+use Rattle.machine.specs.declared.code.Command.{Command}
+use Rattle.machine.specs.Table.{find, row}
+use Rattle.machine.specs.Lent.{Lent, sizes, table, entry, Filled}
+use Rattle.machine.specs.Verdict.{test, sameLength, within, sound, unusedZero, handlesFilled, kindsFit, inWord, tablesHave, inputsHave, tapesHave, listsHave, judged, looked-up, verdict}
+use Rattle.machine.specs.Command.{answer, outcome, accepted, decided, command}
+use Rattle.machine.specs.Refusals.{Counter, handles, inputs, drawn, received, counted, listLength, Field, field, use-of, Applies, lengths-differ, place-beyond, no-kind, no-code, unused-field, not-filled, wrong-kind, over-position, tables-full, inputs-used, tape-spent, list-full, Lowest}
+use Rattle.machine.specs.Claims.{Entry1}
+use Rattle.machine.proofs.Laws.Tests.{Decides, holds, fails, same-as, and, stable, by-le, by-lt, by-eq, some-field, some-miner, four, some-tape, some-list, if-unused, if-handle, if-position, by-filled, stable-filled, NoKind, by-kinds}
+
+-- ---- a chain of tests gives the lowest number that applies
+
+-- of the numbers from k, v is refused by the lowest that applies, or accepted where none does
+data Exact (A : ℕ → Type 0) (k : ℕ) : Verdict → Type 0 where
+  accepts : (x : Code) → ((q : ℕ) → k ≤ q → ¬ A q) → Exact A k (Accepted x)
+  refuses : (r : ℕ) → A r → ((q : ℕ) → k ≤ q → q < r → ¬ A q) → Exact A k (Refused r)
+
+from-next : (A : ℕ → Type 0) (k q : ℕ) → k ≤ q → ¬ A k → (k < q → ¬ A q) → ¬ A q
+from-next A k q h no-k above = elim (eq-or-lt-of-le h) [ inl e ↦ subst (λ (j : ℕ). ¬ A j) e no-k | inr g ↦ above g ]
+
+-- a number that does not apply, before the chain
+lower : {A : ℕ → Type 0} {k : ℕ} {v : Verdict} → ¬ A k → Exact A (suc k) v → Exact A k v
+lower {A} {k} n (accepts x f) = accepts x (λ q h. from-next A k q h n (f q))
+lower {A} {k} n (refuses r h f) = refuses r h (λ q g i. from-next A k q g n (λ j. f q j i))
+
+-- a test before the chain
+step : {A : ℕ → Type 0} {b : Bool} {v : Verdict} (k : ℕ) → Decides (A k) b → (¬ A k → Exact A (suc k) v) → Exact A k (test k b v)
+step k (holds h) next = lower h (next h)
+step k (fails h) next = refuses k h (λ q f g. absurd (omega arith))
+
+-- ---- 5: the code words from 1 to 12 have a command
+
+-- what is looked up for the code word k, of the codes from j
+data Known (j k : ℕ) : Lookup → Type 0 where
+  found : (x : Code) → j ≤ k → k ≤ 12 → Known j k (Found x)
+  missing : ¬ ((j ≤ k) × (k ≤ 12)) → Known j k Missing
+
+or-next : {k : ℕ} {y : Lookup} (j : ℕ) (x : Code) → j ≤ 12 → Known (suc j) k y → Known j k (cond (eqb k j) (Found x) y)
+or-next {k} j x h next = go (by-eq k j) next
+  where
+    go : {b : Bool} {y : Lookup} → Decides (¬ (k ≡ j)) b → Known (suc j) k y → Known j k (cond b (Found x) y)
+    go (holds n) t = found x (omega (arith, stable k j n)) (omega (arith, stable k j n))
+    go (fails n) (found z f g) = found z (omega arith) g
+    go (fails n) (missing m) = missing (λ q. m (omega arith))
+
+known : (k : ℕ) → Known 1 k (find k)
+known k =
+    or-next 1 Store (omega arith) (or-next 2 Add (omega arith) (or-next 3 Subtract (omega arith) (or-next 4 AddConstant (omega arith)
+    (or-next 5 TimesConstant (omega arith) (or-next 6 Multiply (omega arith) (or-next 7 Reshare (omega arith) (or-next 8 Bits (omega arith)
+    (or-next 9 Bit (omega arith) (or-next 10 Equal (omega arith) (or-next 11 Open (omega arith) (or-next 12 Below (omega arith)
+    (missing (λ q. omega arith)))))))))))))
+
+same-code : {y : Lookup} {x z : Code} → y ≡ Found x → y ≡ Found z → x ≡ z
+same-code {x} e f = ap code-of (sym e ∙ f)
+  where
+    code-of : Lookup → Code
+    code-of (Found y) = y
+    code-of Missing = x
+
+-- ---- 10 and 11: the counts of the rows
+
+-- a row has one new value or none
+one-value : (n : ℕ) (x : Code) → 0 < row n x .values → row n x .values ≡ 1
+one-value n Store h = refl
+one-value n Add h = refl
+one-value n Subtract h = refl
+one-value n AddConstant h = refl
+one-value n TimesConstant h = refl
+one-value n Multiply h = refl
+one-value n Reshare h = refl
+one-value n Bits h = refl
+one-value n Bit h = refl
+one-value n Equal h = refl
+one-value n Open h = omega arith
+one-value n Below h = refl
+
+-- store alone takes an input
+takes-input : (n : ℕ) (x : Code) → 0 < row n x .inputs → x ≡ Store
+takes-input n Store h = refl
+takes-input n Add h = absurd (omega arith)
+takes-input n Subtract h = absurd (omega arith)
+takes-input n AddConstant h = absurd (omega arith)
+takes-input n TimesConstant h = absurd (omega arith)
+takes-input n Multiply h = absurd (omega arith)
+takes-input n Reshare h = absurd (omega arith)
+takes-input n Bits h = absurd (omega arith)
+takes-input n Bit h = absurd (omega arith)
+takes-input n Equal h = absurd (omega arith)
+takes-input n Open h = absurd (omega arith)
+takes-input n Below h = absurd (omega arith)
+
+-- ---- each test decides its line of the table
+
+module _ (n : ℕ) (c : Command) (p : Place) (l : Lent) where
+  -- the numbers of the table
+  bounds : {q : ℕ} → Applies n c p l q → (4 ≤ q) × (q ≤ 13)
+  bounds (lengths-differ i h) = omega arith
+  bounds (place-beyond k h) = omega arith
+  bounds (no-kind h f g i) = omega arith
+  bounds (no-code h) = omega arith
+  bounds (unused-field x e f u h) = omega arith
+  bounds (not-filled x e f u h) = omega arith
+  bounds (wrong-kind x e f u g h) = omega arith
+  bounds (over-position x e f u h) = omega arith
+  bounds (tables-full x e v h) = omega arith
+  bounds (inputs-used e h) = omega arith
+  bounds (tape-spent x e i h) = omega arith
+  bounds (list-full x e r h) = omega arith
+
+  -- ---- 4
+
+  -- the three cases
+  abbrev Differ : Type 0
+  Differ = (i : Miner) × (¬ (length (table i (l .tables)) ≡ length (l .kinds)))
+
+  abbrev Beyond : Type 0
+  Beyond = (k : Counter) × (listLength k l < counted k p)
+
+  abbrev Unkind : Type 0
+  Unkind = (i : ℕ) × (i < p .handles) × NoKind (getD (l .kinds) i 0)
+
+  lengths : Decides Differ (sameLength (sizes l))
+  lengths = some-miner (λ i. by-eq (length (table i (l .tables))) (length (l .kinds)))
+
+  places : Decides Beyond (within p (sizes l))
+  places =
+      same-as to (λ s. from (s .0) (s .1))
+      (four (by-le (p .handles) (length (l .tables .one))) (by-le (p .inputs) (length (l .inputs)))
+      (some-tape (λ i. count i (p .drawn)) (λ i. length (tape i (l .tapes)))) (some-list (λ r. due r (p .received)) (λ r. length (list r (l .received)))))
+    where
+      Tape : Type 0
+      Tape = (i : Party) × (length (tape i (l .tapes)) < count i (p .drawn))
+
+      Words : Type 0
+      Words = (r : Receiver) × (length (list r (l .received)) < due r (p .received))
+
+      to : (length (l .tables .one) < p .handles) ⊎ ((length (l .inputs) < p .inputs) ⊎ (Tape ⊎ Words)) → Beyond
+      to (inl h) = (handles, h)
+      to (inr (inl h)) = (inputs, h)
+      to (inr (inr (inl s))) = (drawn (s .0), s .1)
+      to (inr (inr (inr s))) = (received (s .0), s .1)
+
+      from : (k : Counter) → listLength k l < counted k p → (length (l .tables .one) < p .handles) ⊎ ((length (l .inputs) < p .inputs) ⊎ (Tape ⊎ Words))
+      from handles h = inl h
+      from inputs h = inr (inl h)
+      from (drawn i) h = inr (inr (inl (i, h)))
+      from (received r) h = inr (inr (inr (r, h)))
+
+  -- where neither of the first two cases holds, every filled handle has a kind
+  fits : ¬ Differ → ¬ Beyond → p .handles ≤ length (l .kinds)
+  fits agree inside =
+      let not-beyond : ¬ (length (l .tables .one) < p .handles) = λ h. inside (handles, h) in
+      omega (arith, stable (length (l .tables .one)) (length (l .kinds)) (λ h. agree (one, h)))
+
+  test-4 : Decides (Applies n c p l 4) (sound p (sizes l) (l .kinds))
+  test-4 = same-as to from (and lengths (λ agree. and places (λ inside. by-kinds (p .handles) (l .kinds) (fits agree inside))))
+    where
+      to : Differ ⊎ (Beyond ⊎ Unkind) → Applies n c p l 4
+      to (inl s) = lengths-differ (s .0) (s .1)
+      to (inr (inl s)) = place-beyond (s .0) (s .1)
+      to (inr (inr s)) =
+          let e : s .0 ≡ suc (s .0) - 1 = omega arith in
+          let k = subst (λ (j : ℕ). NoKind (getD (l .kinds) j 0)) e (s .2) in
+          no-kind (suc (s .0)) (omega arith) (k .0) (k .1)
+
+      from : Applies n c p l 4 → Differ ⊎ (Beyond ⊎ Unkind)
+      from (lengths-differ i h) = inl (i, h)
+      from (place-beyond k h) = inr (inl (k, h))
+      from (no-kind h f g i) = inr (inr (h - 1, omega arith, (g, i)))
+
+  -- ---- 6 to 13, where the command is x
+
+  module _ (x : Code) (e : find (c .code) ≡ Found x) where
+    test-6 : Decides (Applies n c p l 6) (unusedZero (row n x) c)
+    test-6 = same-as (λ s. unused-field x e (s .0) (s .1 .0) (s .1 .1)) from (some-field (λ f. if-unused (use-of f (row n x)) (by-eq (field f c) 0)))
+      where
+        Line : Code → Type 0
+        Line y = (f : Field) × ((use-of f (row n y) ≡ Unused) × (¬ (field f c ≡ 0)))
+
+        from : Applies n c p l 6 → Line x
+        from (unused-field y k f u h) = subst Line (same-code k e) (f, (u, h))
+
+    test-7 : Decides (Applies n c p l 7) (handlesFilled (row n x) p c)
+    test-7 = same-as (λ s. not-filled x e (s .0) (s .1 .0) (s .1 .1)) from (some-field (λ f. if-handle (use-of f (row n x)) (by-filled p (field f c))))
+      where
+        Line : Code → Type 0
+        Line y = (f : Field) × ((use-of f (row n y) ≡ Handle) × (¬ Filled p (field f c)))
+
+        from : Applies n c p l 7 → Line x
+        from (not-filled y k f u h) = subst Line (same-code k e) (f, (u, h))
+
+    -- where 7 does not apply, each used handle is filled
+    test-8 : ¬ Applies n c p l 7 → Decides (Applies n c p l 8) (kindsFit (row n x) (l .kinds) c)
+    test-8 seven = same-as to from (some-field (λ f. if-handle (use-of f (row n x)) (by-eq (entry (l .kinds) (field f c)) (row n x .operands))))
+      where
+        Line : Code → Type 0
+        Line y = (f : Field) × ((use-of f (row n y) ≡ Handle) × (¬ (entry (l .kinds) (field f c) ≡ row n y .operands)))
+
+        to : Line x → Applies n c p l 8
+        to s = wrong-kind x e (s .0) (s .1 .0) (stable-filled p (field (s .0) c) (λ h. seven (not-filled x e (s .0) (s .1 .0) h))) (s .1 .1)
+
+        from : Applies n c p l 8 → Line x
+        from (wrong-kind y k f u g h) = subst Line (same-code k e) (f, (u, h))
+
+    test-9 : Decides (Applies n c p l 9) (inWord n (row n x) c)
+    test-9 = same-as to from (some-field (λ f. if-position (use-of f (row n x)) (by-lt (field f c) (width n))))
+      where
+        Line : Code → Type 0
+        Line y = (f : Field) × ((use-of f (row n y) ≡ Position) × (width n ≤ field f c))
+
+        to : Line x → Applies n c p l 9
+        to s = over-position x e (s .0) (s .1 .0) (omega (arith, pow-pos n))
+
+        from : Applies n c p l 9 → Line x
+        from (over-position y k f u h) = subst Line (same-code k e) (f, (u, omega (arith, pow-pos n)))
+
+    test-10 : Decides (Applies n c p l 10) (tablesHave (row n x) p (sizes l))
+    test-10 = same-as to from (by-le (row n x .values) (length (l .tables .one) - p .handles))
+      where
+        Line : Code → Type 0
+        Line y = length (l .tables .one) - p .handles < row n y .values
+
+        to : Line x → Applies n c p l 10
+        to h = let v = one-value n x (omega arith) in tables-full x e v (omega (arith, v))
+
+        from : Applies n c p l 10 → Line x
+        from (tables-full y k v h) = subst Line (same-code k e) (omega arith)
+
+    test-11 : Decides (Applies n c p l 11) (inputsHave (row n x) p (sizes l))
+    test-11 = same-as to from (by-le (row n x .inputs) (length (l .inputs) - p .inputs))
+      where
+        Line : Code → Type 0
+        Line y = length (l .inputs) - p .inputs < row n y .inputs
+
+        to : Line x → Applies n c p l 11
+        to h =
+            let s = takes-input n x (omega arith) in
+            let g = subst Line s h in
+            inputs-used (e ∙ ap {B = Lookup} Found s) (omega arith)
+
+        from : Applies n c p l 11 → Line x
+        from (inputs-used k h) = subst Line (same-code k e) (omega arith)
+
+    test-12 : Decides (Applies n c p l 12) (tapesHave (row n x) p (sizes l))
+    test-12 = same-as (λ s. tape-spent x e (s .0) (s .1)) from (some-tape (λ i. count i (row n x .drawn)) (λ i. length (tape i (l .tapes)) - count i (p .drawn)))
+      where
+        Line : Code → Type 0
+        Line y = (i : Party) × (length (tape i (l .tapes)) - count i (p .drawn) < count i (row n y .drawn))
+
+        from : Applies n c p l 12 → Line x
+        from (tape-spent y k i h) = subst Line (same-code k e) (i, h)
+
+    test-13 : Decides (Applies n c p l 13) (listsHave (row n x) p (sizes l))
+    test-13 = same-as (λ s. list-full x e (s .0) (s .1)) from (some-list (λ r. due r (row n x .received)) (λ r. length (list r (l .received)) - due r (p .received)))
+      where
+        Line : Code → Type 0
+        Line y = (r : Receiver) × (length (list r (l .received)) - due r (p .received) < due r (row n y .received))
+
+        from : Applies n c p l 13 → Line x
+        from (list-full y k r h) = subst Line (same-code k e) (r, h)
+
+    from-6 : Exact (Applies n c p l) 6 (judged n (row n x) c p (sizes l) (l .kinds) (Accepted x))
+    unfolding judged
+    from-6 =
+        step 6 test-6 (λ n6. step 7 test-7 (λ n7. step 8 (test-8 n7) (λ n8. step 9 test-9 (λ n9. step 10 test-10 (λ n10. step 11 test-11 (λ n11.
+        step 12 test-12 (λ n12. step 13 test-13 (λ n13. accepts x none))))))))
+      where
+        none : (q : ℕ) → 14 ≤ q → ¬ Applies n c p l q
+        none q h s = omega (arith, bounds s)
+
+  -- ---- 5, and all of it
+
+  from-5 : {y : Lookup} → Known 1 (c .code) y → find (c .code) ≡ y → Exact (Applies n c p l) 5 (looked-up n y c p (sizes l) (l .kinds))
+  from-5 (found x f g) e = lower no-5 (from-6 x e)
+    where
+      no-5 : ¬ Applies n c p l 5
+      no-5 (no-code h) = h (f, g)
+  from-5 (missing h) e = refuses 5 (no-code h) (λ q f g. absurd (omega arith))
+
+  exact : Exact (Applies n c p l) 4 (verdict n c p (sizes l) (l .kinds))
+  unfolding verdict
+  exact = step 4 test-4 (λ n4. from-5 (known (c .code)) refl)
+
+  -- ---- what is answered
+
+  unchanged-at : (v : Verdict) → ¬ (decided n v c p l .answer .number ≡ 0) → decided n v c p l ≡ outcome (answer (decided n v c p l .answer .number) p 0) l
+  unfolding accepted
+  unchanged-at (Accepted x) h = absurd (h refl)
+  unchanged-at (Refused r) h = refl
+
+  refused-at : {v : Verdict} → Exact (Applies n c p l) 4 v → (r : ℕ) → 0 < r → (decided n v c p l .answer .number ≡ r) ↔ Lowest n c p l r
+  unfolding accepted
+  refused-at (accepts x none) r h = (λ e. absurd (omega arith), λ s. absurd (none r (bounds (s .0) .0) (s .0)))
+  refused-at (refuses q s below) r h = (λ e. subst (Lowest n c p l) e (s, λ j g t. below j (bounds t .0) g t), same)
+    where
+      same : Lowest n c p l r → q ≡ r
+      same t =
+          let not-below : ¬ (q < r) = λ g. t .1 q g s in
+          let not-above : ¬ (r < q) = λ g. below r (bounds (t .0) .0) g (t .0) in
+          omega arith
+
+  accepted-at : {v : Verdict} → Exact (Applies n c p l) 4 v → (decided n v c p l .answer .number ≡ 0) ↔ ((r : ℕ) → ¬ Applies n c p l r)
+  unfolding accepted
+  accepted-at (accepts x none) = (λ e r s. none r (bounds s .0) s, λ h. refl)
+  accepted-at (refuses r s below) = (λ e. absurd (omega (arith, bounds s)), λ h. absurd (h r s))
+
+pub entry-1 : (n : ℕ) (c : Command) (p : Place) (l : Lent) → Entry1 n c p l
+unfolding command
+entry-1 n c p l = record {
+  unchanged = unchanged-at n c p l (verdict n c p (sizes l) (l .kinds));
+  refused = refused-at n c p l (exact n c p l);
+  accepted = accepted-at n c p l (exact n c p l);
+}

@@ -1,0 +1,135 @@
+-- What this crate claims of the command machine, as types; proofs/Claims.antt proves each.
+-- n stands for words of 2 ^ n bits; the code's contract cites the same definitions at n = 5.
+use Prim.Native.Nat.{ℕ, _+_, _≤_, _<_}
+use mathlib.Core.Path.{_≡_}
+use mathlib.Core.Logic.{_↔_}
+use mathlib.Core.List.{List, [], _∷_, _++_, map}
+use lib.ListN.{length, getD, take, drop}
+use Rattle.protocols.specs.declared.place.Place.{Place}
+use Rattle.protocols.specs.declared.shares.Shares.{Shares}
+use Rattle.protocols.specs.Word.{modulus}
+use Rattle.protocols.specs.Shares.{Miner, sumOf}
+use Rattle.protocols.specs.Place.{counts, Receiver, list, inOrder, advance, block}
+use Rattle.protocols.specs.Protocol.{done, perform}
+use Rattle.protocols.specs.Counts.{received, due}
+use Rattle.machine.specs.declared.code.Command.{Command}
+use Rattle.machine.specs.declared.code.Code.{Code}
+use Rattle.machine.specs.declared.code.Code.the-variants.{Store, Add, Subtract, AddConstant, TimesConstant, Multiply, Reshare, Bits, Bit, Equal, Open, Below}
+use Rattle.machine.specs.declared.code.Lookup.the-variants.{Found}
+use Rattle.machine.specs.declared.row.Row.{Row}
+use Rattle.machine.specs.declared.row.Use.the-variants.{Unused, Handle, Word, Position}
+use Rattle.machine.specs.declared.judge.Verdict.the-variants.{Accepted}
+use Rattle.machine.specs.Table.{find, line, row}
+use Rattle.machine.specs.Lent.{Lent, table, sizes, entry, sharesAt, Filled, AreWords}
+use Rattle.machine.specs.Verdict.{number, verdict}
+use Rattle.machine.specs.Steps.{protocol}
+use Rattle.machine.specs.Command.{Outcome, answer, outcome, given, command}
+use Rattle.machine.specs.Registers.{named, judge, step, leads}
+use Rattle.machine.specs.Start.{combined, start}
+use Rattle.machine.specs.Run.{run, reply, openedWords, registersAfter, replies}
+use Rattle.machine.specs.Refusals.{Applies, Lowest}
+
+-- ---- the table of 01 at 32 bits, line by line
+
+abbrev pub Line : ℕ → Code → Row → Type 0
+Line number x r = (find number ≡ Found x) × (row 5 x ≡ r)
+
+pub record TableAt32 : Type 0 where
+  --               code           a      b        kinds, values, inputs  received               drawn
+  pub store : Line 1 Store (line Unused Unused 1 1 1 1 (received 1 1 1 0) (counts 2 0 0 0))
+  pub add : Line 2 Add (line Handle Handle 1 1 1 0 (received 0 0 0 0) (counts 0 0 0 0))
+  pub subtract : Line 3 Subtract (line Handle Handle 1 1 1 0 (received 0 0 0 0) (counts 0 0 0 0))
+  pub add-constant : Line 4 AddConstant (line Handle Word 1 1 1 0 (received 0 0 0 0) (counts 0 0 0 0))
+  pub times-constant : Line 5 TimesConstant (line Handle Word 1 1 1 0 (received 0 0 0 0) (counts 0 0 0 0))
+  pub multiply : Line 6 Multiply (line Handle Handle 1 1 1 0 (received 4 4 4 0) (counts 0 2 2 2))
+  pub reshare : Line 7 Reshare (line Handle Unused 1 1 1 0 (received 1 1 1 0) (counts 0 1 1 1))
+  pub bits : Line 8 Bits (line Handle Unused 1 2 1 0 (received 22 25 25 0) (counts 0 15 12 12))
+  pub bit : Line 9 Bit (line Handle Position 2 1 1 0 (received 0 3 3 0) (counts 0 3 0 0))
+  pub equal : Line 10 Equal (line Handle Handle 1 1 1 0 (received 11 15 15 0) (counts 0 10 6 6))
+  pub opening : Line 11 Open (line Handle Unused 1 1 0 0 (received 1 1 1 3) (counts 0 1 1 1))
+  pub below : Line 12 Below (line Handle Handle 1 1 1 0 (received 22 28 28 0) (counts 0 18 12 12))
+
+-- ---- 1. Entry 1: every command is answered by the table.
+
+-- words after the first k of a list, all else as it was
+abbrev pub Appended : List ℕ → ℕ → List ℕ → List ℕ → Type 0
+Appended before k words now = now ≡ take k before ++ (words ++ drop (k + length words) before)
+
+module _ (n : ℕ) (c : Command) (p : Place) (l : Lent) where
+  abbrev pub after : Outcome
+  after = command n c p l
+
+  abbrev pub answered : ℕ
+  answered = after .answer .number
+
+  pub record Entry1 : Type 0 where
+    -- 'a refused command changes no share, received word or place on a tape', and opens 0
+    pub unchanged : ¬ (answered ≡ 0) → after ≡ outcome (answer answered p 0) l
+    -- 'refuses only with a number from the table, in the case named there'
+    pub refused : (r : ℕ) → 0 < r → (answered ≡ r) ↔ Lowest n c p l r
+    pub accepted : (answered ≡ 0) ↔ ((r : ℕ) → ¬ Applies n c p l r)
+
+  -- ---- 2. Entry 2: after each command the shares combine to what the register machine holds.
+
+  -- of an accepted command x: the words drawn are its row's, and each list has its row's words more
+  pub record Counts (x : Code) : Type 0 where
+    pub drawn : protocol n x (c .b) .draws ≡ row n x .drawn
+    pub grown : (r : Receiver) → (words : List ℕ) × (length words ≡ due r (row n x .received))
+        × Appended (list r (l .received)) (due r (p .received)) words (list r (after .lent .received))
+
+  -- of an accepted open: 'an open hands the controller three shares that add up to the register's word', and answers it
+  pub record Opened : Type 0 where
+    pub shares : Shares
+    pub handed : Appended (l .received .controller) (p .received .controller) (inOrder shares) (after .lent .received .controller)
+    pub add-up : sumOf (modulus n) shares ≡ named (start n p l .held) (c .a) .word
+    pub told : after .answer .opened ≡ named (start n p l .held) (c .a) .word
+
+  pub record Entry2 : Type 0 where
+    -- the number and the place record are the register machine's
+    pub same-number : answered ≡ number (judge n c (sizes l) (start n p l))
+    pub same-place : after .answer .place ≡ step n c (sizes l) (l .inputs) (start n p l) .place
+    -- every filled handle's shares combine, by its kind, to its register's word
+    pub combine : (h : ℕ) → Filled (after .answer .place) h → let r = named (step n c (sizes l) (l .inputs) (start n p l) .held) h in
+        (entry (after .lent .kinds) h ≡ r .kind) × (combined (modulus n) (r .kind) (sharesAt (after .lent .tables) h) ≡ r .word)
+    pub counts : (x : Code) → verdict n c p (sizes l) (l .kinds) ≡ Accepted x → Counts x
+    pub opened : c .code ≡ 11 → answered ≡ 0 → Opened
+    pub not-opened : ¬ (c .code ≡ 11) → after .answer .opened ≡ 0
+    -- no entry but the new handle's is written
+    pub tables-kept : (i : Miner) (k : ℕ) → ¬ (k ≡ p .handles) → getD (table i (after .lent .tables)) k 0 ≡ getD (table i (l .tables)) k 0
+    pub kinds-kept : (k : ℕ) → ¬ (k ≡ p .handles) → getD (after .lent .kinds) k 0 ≡ getD (l .kinds) k 0
+    pub inputs-kept : after .lent .inputs ≡ l .inputs
+    pub tapes-kept : after .lent .tapes ≡ l .tapes
+    pub sizes-kept : sizes (after .lent) ≡ sizes l
+    pub words : AreWords (modulus n) (after .lent)
+
+  -- ---- 4. A protocol that a command starts has the words that it draws.
+
+  abbrev pub NeverSpent : Type 0
+  NeverSpent = (x : Code) → verdict n c p (sizes l) (l .kinds) ≡ Accepted x
+      → let f = protocol n x (c .b) in
+      let g = given (l .tables) (l .inputs) p c in
+      let b = block (f .draws) p (l .tapes) in
+      perform f g p (l .tapes) ≡ done (f .result g b) (f .received g b) (advance p (row n x .drawn))
+
+-- ---- 3. Entry 2 over every list of commands, from every place.
+
+-- entry 2 at each command of the list
+unfoldable pub Throughout : ℕ → List Command → Place → Lent → Type 0
+Throughout n [] p l = Unit {0}
+Throughout n (c ∷ cs) p l = Entry2 n c p l × Throughout n cs (command n c p l .answer .place) (command n c p l .lent)
+
+-- the register machine, started once and run by itself, agrees at the end
+pub record RunAgrees (n : ℕ) (cs : List Command) (p : Place) (l : Lent) : Type 0 where
+  pub same-replies : map reply (run n cs p l .answers) ≡ replies n cs (sizes l) (l .inputs) (start n p l)
+  pub same-registers : start n (run n cs p l .place) (run n cs p l .lent) ≡ registersAfter n cs (sizes l) (l .inputs) (start n p l)
+  pub same-opened : openedWords cs (run n cs p l .answers) ≡ leads n cs (sizes l) (l .inputs) (start n p l)
+
+-- ---- all of it
+
+pub record Claims : Type 0 where
+  pub table-at-32 : TableAt32
+  pub entry-1 : (n : ℕ) (c : Command) (p : Place) (l : Lent) → Entry1 n c p l
+  pub entry-2 : (n : ℕ) (c : Command) (p : Place) (l : Lent) → AreWords (modulus n) l → Entry2 n c p l
+  pub entry-2-throughout : (n : ℕ) (cs : List Command) (p : Place) (l : Lent) → AreWords (modulus n) l → Throughout n cs p l
+  pub entry-2-run : (n : ℕ) (cs : List Command) (p : Place) (l : Lent) → AreWords (modulus n) l → RunAgrees n cs p l
+  pub never-spent : (n : ℕ) (c : Command) (p : Place) (l : Lent) → NeverSpent n c p l
