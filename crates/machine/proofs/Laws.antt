@@ -1,10 +1,12 @@
 -- Laws of the definitions, one topic to a file.
 pub mod KindTest
 pub mod Accepted
-pub mod Steps
 pub mod Tests
+pub mod Rows
+pub mod Steps
 pub mod Refusals
 pub mod Entries
+pub mod Judge
 pub mod Agree
 pub mod RunAgree
 pub mod Play

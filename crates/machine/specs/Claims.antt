@@ -55,6 +55,10 @@ pub record TableAt32 : Type 0 where
 abbrev pub Appended : List ℕ → ℕ → List ℕ → List ℕ → Type 0
 Appended before k words now = now ≡ take k before ++ (words ++ drop (k + length words) before)
 
+-- an entry that is filled at q and was not at p
+abbrev pub New : Place → Place → ℕ → Type 0
+New p q k = (p .handles ≤ k) × (k < q .handles)
+
 module _ (n : ℕ) (c : Command) (p : Place) (l : Lent) where
   abbrev pub after : Outcome
   after = command n c p l
@@ -95,21 +99,12 @@ module _ (n : ℕ) (c : Command) (p : Place) (l : Lent) where
     pub opened : c .code ≡ 11 → answered ≡ 0 → Opened
     pub not-opened : ¬ (c .code ≡ 11) → after .answer .opened ≡ 0
     -- no entry but the new handle's is written
-    pub tables-kept : (i : Miner) (k : ℕ) → ¬ (k ≡ p .handles) → getD (table i (after .lent .tables)) k 0 ≡ getD (table i (l .tables)) k 0
-    pub kinds-kept : (k : ℕ) → ¬ (k ≡ p .handles) → getD (after .lent .kinds) k 0 ≡ getD (l .kinds) k 0
+    pub tables-kept : (i : Miner) (k : ℕ) → ¬ New p (after .answer .place) k → getD (table i (after .lent .tables)) k 0 ≡ getD (table i (l .tables)) k 0
+    pub kinds-kept : (k : ℕ) → ¬ New p (after .answer .place) k → getD (after .lent .kinds) k 0 ≡ getD (l .kinds) k 0
     pub inputs-kept : after .lent .inputs ≡ l .inputs
     pub tapes-kept : after .lent .tapes ≡ l .tapes
     pub sizes-kept : sizes (after .lent) ≡ sizes l
     pub words : AreWords (modulus n) (after .lent)
-
-  -- ---- 4. A protocol that a command starts has the words that it draws.
-
-  abbrev pub NeverSpent : Type 0
-  NeverSpent = (x : Code) → verdict n c p (sizes l) (l .kinds) ≡ Accepted x
-      → let f = protocol n x (c .b) in
-      let g = given (l .tables) (l .inputs) p c in
-      let b = block (f .draws) p (l .tapes) in
-      perform f g p (l .tapes) ≡ done (f .result g b) (f .received g b) (advance p (row n x .drawn))
 
 -- ---- 3. Entry 2 over every list of commands, from every place.
 
@@ -123,6 +118,15 @@ pub record RunAgrees (n : ℕ) (cs : List Command) (p : Place) (l : Lent) : Type
   pub same-replies : map reply (run n cs p l .answers) ≡ replies n cs (sizes l) (l .inputs) (start n p l)
   pub same-registers : start n (run n cs p l .place) (run n cs p l .lent) ≡ registersAfter n cs (sizes l) (l .inputs) (start n p l)
   pub same-opened : openedWords cs (run n cs p l .answers) ≡ leads n cs (sizes l) (l .inputs) (start n p l)
+
+-- ---- 4. The protocol of an accepted command is never spent, wherever the other counts of the place record stand.
+
+abbrev pub NeverSpent : ℕ → Command → Place → Lent → Type 0
+NeverSpent n c p l = (x : Code) → verdict n c p (sizes l) (l .kinds) ≡ Accepted x → (q : Place) → q .drawn ≡ p .drawn
+    → let f = protocol n x (c .b) in
+    let g = given (l .tables) (l .inputs) p c in
+    let b = block (f .draws) p (l .tapes) in
+    perform f g q (l .tapes) ≡ done (f .result g b) (f .received g b) (advance q (row n x .drawn))
 
 -- ---- all of it
 

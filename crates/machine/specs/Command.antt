@@ -1,5 +1,5 @@
 -- One command: its answer, and all lent lists after it. (01, 'Handles, tapes and places')
-use Prim.Native.Nat.{ℕ, zero, suc, _+_}
+use Prim.Native.Nat.{ℕ, zero, suc}
 use mathlib.Core.Bool.{cond}
 use mathlib.Core.List.{List}
 use lib.ListN.{set, getD}
@@ -8,8 +8,7 @@ use Rattle.protocols.specs.declared.place.Place.{Place}
 use Rattle.protocols.specs.declared.shares.Shares.{Shares}
 use Rattle.protocols.specs.Word.{modulus}
 use Rattle.protocols.specs.Shares.{sumOf}
-use Rattle.protocols.specs.Place.{Lists, lists, plus, block}
-use Rattle.protocols.specs.Counts.{plusReceived}
+use Rattle.protocols.specs.Place.{Lists, lists, block}
 use Rattle.machine.specs.declared.code.Command.{Command}
 use Rattle.machine.specs.declared.code.Code.{Code}
 use Rattle.machine.specs.declared.row.Row.{Row}
@@ -17,7 +16,7 @@ use Rattle.machine.specs.declared.judge.Verdict.{Verdict}
 use Rattle.machine.specs.declared.judge.Verdict.the-variants.{Accepted, Refused}
 use Rattle.machine.specs.declared.given.Given.{Given}
 use Rattle.machine.specs.declared.answer.Answer.{Answer}
-use Rattle.machine.specs.Table.{row, opens}
+use Rattle.machine.specs.Table.{row, opens, moved}
 use Rattle.machine.specs.Lent.{Tables, tables, Lent, lent, sizes, sharesAt}
 use Rattle.machine.specs.Verdict.{verdict}
 use Rattle.machine.specs.Steps.{protocol}
@@ -32,15 +31,6 @@ pub record Outcome : Type 0 where
 
 abbrev pub outcome : Answer → Lent → Outcome
 outcome a l = record { answer = a; lent = l }
-
--- the place record moved on by a row's counts
-abbrev pub moved : Place → Row → Place
-moved p x = record {
-  handles = p .handles + x .values;
-  inputs = p .inputs + x .inputs;
-  drawn = plus (p .drawn) (x .drawn);
-  received = plusReceived (p .received) (x .received);
-}
 
 -- the next input, and the shares of handles a and b
 abbrev pub given : Tables → List ℕ → Place → Command → Given

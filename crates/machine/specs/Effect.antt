@@ -21,11 +21,11 @@ use Rattle.machine.specs.declared.row.Row.{Row}
 use Rattle.machine.specs.declared.judge.Verdict.{Verdict}
 use Rattle.machine.specs.declared.judge.Verdict.the-variants.{Accepted, Refused}
 use Rattle.machine.specs.declared.effect.Effect.{Effect}
-use Rattle.machine.specs.Table.{row}
+use Rattle.machine.specs.Table.{row, moved}
 use Rattle.machine.specs.Lent.{Tables, tables, Lent, sizes}
 use Rattle.machine.specs.Verdict.{verdict}
 use Rattle.machine.specs.Steps.{protocol}
-use Rattle.machine.specs.Command.{moved, given, opened, put, withShares}
+use Rattle.machine.specs.Command.{given, opened, put, withShares}
 
 -- ---- computed
 

@@ -1,6 +1,5 @@
 -- What is lent to a command. (01, 'Handles, tapes and places')
-use Prim.Native.Nat.{ℕ, _-_, _≤_, _<_}
-use mathlib.Core.Path.{_≡_}
+use Prim.Native.Nat.{ℕ, _-_, _≤_}
 use mathlib.Core.List.{List}
 use lib.ListN.{length, getD}
 use Rattle.protocols.specs.declared.place.Drawn.{Drawn}

@@ -12,9 +12,8 @@ use Rattle.machine.specs.declared.code.Code.the-variants.{Store, Add, Su
 use Rattle.machine.specs.declared.lent.Sizes.{Sizes}
 use Rattle.machine.specs.declared.judge.Verdict.{Verdict}
 use Rattle.machine.specs.declared.judge.Verdict.the-variants.{Accepted, Refused}
-use Rattle.machine.specs.Table.{row, opens}
+use Rattle.machine.specs.Table.{row, opens, moved}
 use Rattle.machine.specs.Verdict.{verdict}
-use Rattle.machine.specs.Command.{moved}
 
 -- 'registers (word, kind)'
 pub record Register : Type 0 where

@@ -1,13 +1,14 @@
 -- The table of commands, over words of 2 ^ n bits. (01, 'The commands')
 use Prim.Native.Nat.{ℕ, _+_, _*_}
 use mathlib.Core.Bool.{Bool, cond}
-use mathlib.Core.List.{List, [], _∷_}
+use mathlib.Core.List.{List}
 use lib.ListN.{getD}
 use lib.Dec.{ltb, eqb}
 use Rattle.protocols.specs.declared.place.Drawn.{Drawn}
+use Rattle.protocols.specs.declared.place.Place.{Place}
 use Rattle.protocols.specs.declared.place.Received.{Received}
-use Rattle.protocols.specs.Place.{counts}
-use Rattle.protocols.specs.Counts.{received}
+use Rattle.protocols.specs.Place.{counts, plus}
+use Rattle.protocols.specs.Counts.{received, plusReceived}
 use Rattle.machine.specs.declared.code.Command.{Command}
 use Rattle.machine.specs.declared.code.Code.{Code}
 use Rattle.machine.specs.declared.code.Code.the-variants.{Store, Add, Subtract, AddConstant, TimesConstant, Multiply, Reshare, Bits, Bit, Equal, Open, Below}
@@ -20,10 +21,6 @@ use Rattle.machine.specs.declared.row.Row.{Row}
 -- 'A command is three words: code, a, b'
 abbrev pub command : ℕ → ℕ → ℕ → Command
 command code a b = record { code = code; a = a; b = b }
-
--- the commands in the order of their codes, from 1
-abbrev pub codes : List Code
-codes = Store ∷ Add ∷ Subtract ∷ AddConstant ∷ TimesConstant ∷ Multiply ∷ Reshare ∷ Bits ∷ Bit ∷ Equal ∷ Open ∷ Below ∷ []
 
 -- the command of a code word
 abbrev pub find : ℕ → Lookup
@@ -63,3 +60,12 @@ row n Below = line Handle Handle 1 1 1 0 (received (2 + 4 * n) (8 + 4 * n) (8 + 
 -- an open is the one command with words for the controller
 abbrev pub opens : ℕ → Code → Bool
 opens n x = ltb 0 (row n x .received .controller)
+
+-- the place record moved on by a row's counts
+abbrev pub moved : Place → Row → Place
+moved p x = record {
+  handles = p .handles + x .values;
+  inputs = p .inputs + x .inputs;
+  drawn = plus (p .drawn) (x .drawn);
+  received = plusReceived (p .received) (x .received);
+}

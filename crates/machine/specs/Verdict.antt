@@ -1,7 +1,7 @@
 -- When a command is turned down: the lowest number that applies, and only then. (01, 'When a call is turned down', numbers 4 to 13)
 -- It is told from what is public: the command, the place record, the lengths of all lent lists, and the kinds.
 use Prim.Native.Nat.{ℕ, _-_}
-use mathlib.Core.Bool.{Bool, true, false, cond, _&&_, _||_}
+use mathlib.Core.Bool.{Bool, true, cond, _&&_, _||_}
 use mathlib.Core.List.{List, [], _∷_}
 use lib.ListN.{take}
 use lib.Dec.{ltb, leb, eqb}
@@ -11,7 +11,6 @@ use Rattle.protocols.specs.Shares.{one, two, three}
 use Rattle.protocols.specs.Place.{count, every, Receiver, miner, controller}
 use Rattle.protocols.specs.Counts.{due}
 use Rattle.machine.specs.declared.code.Command.{Command}
-use Rattle.machine.specs.declared.code.Code.{Code}
 use Rattle.machine.specs.declared.code.Lookup.{Lookup}
 use Rattle.machine.specs.declared.code.Lookup.the-variants.{Found, Missing}
 use Rattle.machine.specs.declared.row.Use.{Use}

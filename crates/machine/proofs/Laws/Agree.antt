@@ -2,14 +2,14 @@
 use Prim.Native.Nat.{ℕ, zero, suc, _+_, _-_, _≤_, _<_}
 use mathlib.Core.Path.{_≡_, refl, sym, ap, ap₂, _∙_, subst}
 use mathlib.Core.Bool.{Bool, true, false, cond, _&&_, and-false}
-use mathlib.Core.List.{List, [], _∷_, _++_, map}
-use native.Mathlib.Nat.{le-refl, add-zero}
+use mathlib.Core.List.{List, [], _∷_, _++_}
+use native.Mathlib.Nat.{add-zero}
 use native.Mathlib.Numerals.{add-one}
 use native.Mathlib.Omega.{arith}
-use borrow.Author.Tests.{ltb-true, leb-true, eqb-true, ne-eqb}
-use lib.ListN.{length, getD, take}
-use lib.Seq.{take-take, getD-take, length-sets}
-use lib.Dec.{T, ltb, leb, eqb, ltb→lt, lit<, lit≤}
+use borrow.Author.Tests.{eqb-true, ne-eqb}
+use lib.ListN.{length, getD}
+use lib.Seq.{length-sets}
+use lib.Dec.{eqb}
 use lib.Pow.{pow-pos}
 use Rattle.protocols.specs.declared.place.Drawn.{Drawn}
 use Rattle.protocols.specs.declared.place.Place.{Place}
@@ -22,156 +22,27 @@ use Rattle.protocols.specs.Counts.{received, due}
 use Rattle.protocols.proofs.Laws.Blocks.{block-contents}
 use Rattle.machine.specs.declared.code.Code.{Code}
 use Rattle.machine.specs.declared.code.Code.the-variants.{Store, Add, Subtract, AddConstant, TimesConstant, Multiply, Reshare, Bits, Bit, Equal, Open, Below}
-use Rattle.machine.specs.declared.code.Lookup.{Lookup}
-use Rattle.machine.specs.declared.code.Lookup.the-variants.{Found, Missing}
 use Rattle.machine.specs.declared.row.Use.{Use}
 use Rattle.machine.specs.declared.row.Use.the-variants.{Unused, Handle, Word, Position}
-use Rattle.machine.specs.declared.row.Row.{Row}
-use Rattle.machine.specs.declared.lent.Sizes.{Sizes}
 use Rattle.machine.specs.declared.judge.Verdict.{Verdict}
 use Rattle.machine.specs.declared.judge.Verdict.the-variants.{Accepted, Refused}
 use Rattle.machine.specs.declared.given.Given.{Given}
 use Rattle.machine.specs.declared.code.Command.{Command}
-use Rattle.machine.specs.Table.{find, row, opens}
+use Rattle.machine.specs.Table.{find, row, opens, moved}
 use Rattle.machine.specs.Lent.{table, Lent, lent, tapeLengths, sizes, entry, sharesAt, Filled, AreWords}
-use Rattle.machine.specs.Verdict.{number, test, sameLength, within, areKinds, sound, meets, filled, unusedZero, handlesFilled, kindsFit, inWord, tablesHave, inputsHave, tapesHave, listsHave, judged, looked-up, verdict}
+use Rattle.machine.specs.Verdict.{number, meets, filled, verdict}
 use Rattle.machine.specs.Steps.{protocol}
-use Rattle.machine.specs.Command.{Outcome, moved, given, opened, put, withShares, written, accepted, decided, command}
+use Rattle.machine.specs.Command.{Outcome, given, opened, put, withShares, written, accepted, decided, command}
 use Rattle.machine.specs.Registers.{Register, register, Registers, registers, named, value, grown, judge, after, step, shown}
 use Rattle.machine.specs.Start.{combined, registerOf, upTo, start}
 use Rattle.machine.specs.Run.{isOpen}
-use Rattle.machine.specs.Claims.{Appended, Opened, Entry2}
+use Rattle.machine.specs.Claims.{Appended, New, Opened, Entry2}
 use Rattle.machine.proofs.Laws.Accepted.{both, Passed, all-passed, has-room}
 use Rattle.machine.proofs.Laws.Steps.{GivenAreWords, count-lengths, steps-counted, steps-combine, open-hands}
-use Rattle.machine.proofs.Laws.Entries.{getD-upTo, upTo-same, map-upTo, upTo-take, entry-set-old, entry-set-new, getD-put, length-put, table-withShares, sets-appended, list-withWords, due-listLengths, below-getD, shares-are-words, below-put, below-sets}
-
--- ---- the verdict reads no kind but those of filled handles
-
-is-filled : (p : Place) (h : ℕ) → filled p h ≡ true → Filled p h
-is-filled p h e = let t = both (ltb 0 h) (leb h (p .handles)) e in (ltb-true 0 h (t .0), leb-true h (p .handles) (t .1))
-
--- test 7 comes before test 8
-fits-alike : (h k k′ : Bool) (v : Verdict) → (h ≡ true → k ≡ k′) → test 7 h (test 8 k v) ≡ test 7 h (test 8 k′ v)
-fits-alike true k k′ v e = ap (λ (b : Bool). test 8 b v) (e refl)
-fits-alike false k k′ v e = refl
-
--- lengths and places come before the kinds
-sound-alike : (a b : Bool) (f : List ℕ → Bool) (v : List ℕ → Verdict) (k k′ : List ℕ) → (a ≡ true → b ≡ true → k ≡ k′)
-    → test 4 (a && (b && f k)) (v k) ≡ test 4 (a && (b && f k′)) (v k′)
-sound-alike true true f v k k′ e = ap (λ (l : List ℕ). test 4 (f l) (v l)) (e refl refl)
-sound-alike true false f v k k′ e = refl
-sound-alike false b f v k k′ e = refl
-
-module _ (n : ℕ) (c : Command) (p : Place) (z : Sizes) (kinds : List ℕ) where
-  field-fits : (u : Use) (h k : ℕ) → meets u true (filled p h) true ≡ true
-      → meets u true (eqb (entry (take (p .handles) kinds) h) k) true ≡ meets u true (eqb (entry kinds h) k) true
-  field-fits Unused h k e = refl
-  field-fits Handle h k e =
-      let f = is-filled p h e in
-      ap (λ (w : ℕ). eqb w k) (getD-take (p .handles) kinds (h - 1) 0 (omega (arith, f .0, f .1)))
-  field-fits Word h k e = refl
-  field-fits Position h k e = refl
-
-  kinds-fit : (x : Row) → handlesFilled x p c ≡ true → kindsFit x (take (p .handles) kinds) c ≡ kindsFit x kinds c
-  kinds-fit x e =
-      let t = both (meets (x .a) true (filled p (c .a)) true) (meets (x .b) true (filled p (c .b)) true) e in
-      ap₂ _&&_ (field-fits (x .a) (c .a) (x .operands) (t .0)) (field-fits (x .b) (c .b) (x .operands) (t .1))
-
-  looked-up-taken : (y : Lookup) → looked-up n y c p z (take (p .handles) kinds) ≡ looked-up n y c p z kinds
-  unfolding judged
-  looked-up-taken (Found x) = ap (test 6 (unusedZero (row n x) c)) (fits-alike (handlesFilled (row n x) p c) _ _ _ (kinds-fit (row n x)))
-  looked-up-taken Missing = refl
-
-  verdict-taken : verdict n c p z (take (p .handles) kinds) ≡ verdict n c p z kinds
-  unfolding verdict
-  verdict-taken =
-      ap₂ (λ (t : Bool) (v : Verdict). test 4 (sameLength z && (within p z && t)) v)
-      (ap areKinds (take-take (p .handles) (p .handles) kinds (le-refl (p .handles)))) (looked-up-taken (find (c .code)))
-
-  verdict-alike : (k : List ℕ) → (sameLength z ≡ true → within p z ≡ true → k ≡ take (p .handles) kinds) → verdict n c p z k ≡ verdict n c p z kinds
-  unfolding verdict
-  verdict-alike k e =
-      sound-alike (sameLength z) (within p z) (λ l. areKinds (take (p .handles) l)) (looked-up n (find (c .code)) c p z) k (take (p .handles) kinds) e
-      ∙ verdict-taken
-
-same-lengths : (l : Lent) → sameLength (sizes l) ≡ true → (i : Miner) → length (table i (l .tables)) ≡ length (l .kinds)
-same-lengths l e = by-miner
-  where
-    t : Miner → Bool
-    t i = eqb (length (table i (l .tables))) (length (l .kinds))
-
-    by-miner : (i : Miner) → length (table i (l .tables)) ≡ length (l .kinds)
-    by-miner one = eqb-true _ _ (both (t one) _ e .0)
-    by-miner two = eqb-true _ _ (both (t two) (t three) (both (t one) _ e .1) .0)
-    by-miner three = eqb-true _ _ (both (t two) (t three) (both (t one) _ e .1) .1)
-
--- the register machine's verdict is the command's
-judge-same : (n : ℕ) (c : Command) (p : Place) (l : Lent) → judge n c (sizes l) (start n p l) ≡ verdict n c p (sizes l) (l .kinds)
-unfolding start
-judge-same n c p l = verdict-alike n c p (sizes l) (l .kinds) (map (λ r. r .kind) (upTo (p .handles) (registerOf n l))) kinds-held
-  where
-    kinds-held : sameLength (sizes l) ≡ true → within p (sizes l) ≡ true → map (λ r. r .kind) (upTo (p .handles) (registerOf n l)) ≡ take (p .handles) (l .kinds)
-    kinds-held a b =
-        map-upTo (λ r. r .kind) (p .handles) (registerOf n l)
-        ∙ upTo-take (p .handles) (l .kinds) (omega (arith, same-lengths l a one, leb-true (p .handles) (length (l .tables .one)) (both _ _ b .0)))
-
--- ---- every refusal's number is above 0
-
-AboveZero : Verdict → Type 0
-AboveZero (Accepted x) = Unit {0}
-AboveZero (Refused r) = 0 < r
-
-test-above : (r : ℕ) → T (ltb 0 r) → (b : Bool) (v : Verdict) → AboveZero v → AboveZero (test r b v)
-unfolding AboveZero
-test-above r h true v k = k
-test-above r h false v k = ltb→lt 0 r h
-
-looked-up-above : (n : ℕ) (y : Lookup) (c : Command) (p : Place) (z : Sizes) (kinds : List ℕ) → AboveZero (looked-up n y c p z kinds)
-unfolding judged
-looked-up-above n (Found x) c p z kinds =
-    let r = row n x in
-    test-above 6 tt (unusedZero r c) _ (test-above 7 tt (handlesFilled r p c) _ (test-above 8 tt (kindsFit r kinds c) _ (test-above 9 tt (inWord n r c) _
-    (test-above 10 tt (tablesHave r p z) _ (test-above 11 tt (inputsHave r p z) _ (test-above 12 tt (tapesHave r p z) _
-    (test-above 13 tt (listsHave r p z) (Accepted x) (unfold AboveZero in tt))))))))
-looked-up-above n Missing c p z kinds = unfold AboveZero in lit< tt
-
-above-zero : (n : ℕ) (c : Command) (p : Place) (z : Sizes) (kinds : List ℕ) (r : ℕ) → verdict n c p z kinds ≡ Refused r → 0 < r
-unfolding verdict AboveZero
-above-zero n c p z kinds r e = subst AboveZero e (test-above 4 tt (sound p z kinds) _ (looked-up-above n (find (c .code)) c p z kinds))
-
--- ---- the code of open
-
-found-same : {x y : Code} → Found x ≡ Found y → x ≡ y
-found-same {x} e = ap code-of e
-  where
-    code-of : Lookup → Code
-    code-of (Found y) = y
-    code-of Missing = x
-
-missing-not : {x : Code} → Missing ≡ Found x → ⊥
-missing-not e = subst tells e tt
-  where
-    tells : Lookup → Type 0
-    tells (Found x) = ⊥
-    tells Missing = Unit {0}
-
--- whatever command is found for the code k, it opens just where k is 11
-abbrev OpensAt11 : ℕ → ℕ → Lookup → Type 0
-OpensAt11 n k y = (x : Code) → y ≡ Found x → eqb k 11 ≡ opens n x
-
-at-code : (n k j : ℕ) (y : Code) (rest : Lookup) → eqb j 11 ≡ opens n y → OpensAt11 n k rest → OpensAt11 n k (cond (eqb k j) (Found y) rest)
-at-code n k j y rest h r = by-test (eqb k j) refl
-  where
-    by-test : (b : Bool) → eqb k j ≡ b → OpensAt11 n k (cond b (Found y) rest)
-    by-test true e x f = ap (λ (i : ℕ). eqb i 11) (eqb-true k j e) ∙ h ∙ ap (opens n) (found-same f)
-    by-test false e x f = r x f
-
-opens-at-11 : (n k : ℕ) → OpensAt11 n k (find k)
-opens-at-11 n k =
-    at-code n k 1 Store _ refl (at-code n k 2 Add _ refl (at-code n k 3 Subtract _ refl (at-code n k 4 AddConstant _ refl
-    (at-code n k 5 TimesConstant _ refl (at-code n k 6 Multiply _ refl (at-code n k 7 Reshare _ refl (at-code n k 8 Bits _ refl
-    (at-code n k 9 Bit _ refl (at-code n k 10 Equal _ refl (at-code n k 11 Open _ refl (at-code n k 12 Below _ refl
-    (λ x f. absurd (missing-not f)))))))))))))
+use Rattle.machine.proofs.Laws.Rows.{values-at-most-1, same-code, opens-at-11}
+use Rattle.machine.proofs.Laws.Refusals.{above-zero}
+use Rattle.machine.proofs.Laws.Judge.{is-filled, same-lengths, judge-same}
+use Rattle.machine.proofs.Laws.Entries.{getD-upTo, upTo-same, entry-set-old, entry-set-new, getD-put, length-put, table-withShares, sets-appended, list-withWords, due-listLengths, below-getD, shares-are-words, below-put, below-sets}
 
 -- ---- registers of filled handles, and the operands' words
 
@@ -218,20 +89,6 @@ operand-word n p l Word h k e f = tt
 operand-word n p l Position h k e f = tt
 
 -- ---- one register more
-
-values-at-most-1 : (n : ℕ) (x : Code) → row n x .values ≤ 1
-values-at-most-1 n Store = lit≤ tt
-values-at-most-1 n Add = lit≤ tt
-values-at-most-1 n Subtract = lit≤ tt
-values-at-most-1 n AddConstant = lit≤ tt
-values-at-most-1 n TimesConstant = lit≤ tt
-values-at-most-1 n Multiply = lit≤ tt
-values-at-most-1 n Reshare = lit≤ tt
-values-at-most-1 n Bits = lit≤ tt
-values-at-most-1 n Bit = lit≤ tt
-values-at-most-1 n Equal = lit≤ tt
-values-at-most-1 n Open = lit≤ tt
-values-at-most-1 n Below = lit≤ tt
 
 register-same : (n : ℕ) {k k′ : ℕ} {f g : Miner → ℕ} → k ≡ k′ → ((i : Miner) → f i ≡ g i)
     → register (combined (modulus n) k (each f)) k ≡ register (combined (modulus n) k′ (each g)) k′
@@ -359,8 +216,8 @@ module _ (n : ℕ) (c : Command) (p : Place) (l : Lent) (x : Code) where
 
 -- what it leaves as it was; the laws `-by` go by the verdict
 record Kept (n : ℕ) (p : Place) (l : Lent) (o : Outcome) : Type 0 where
-  tables-kept : (i : Miner) (k : ℕ) → ¬ (k ≡ p .handles) → getD (table i (o .lent .tables)) k 0 ≡ getD (table i (l .tables)) k 0
-  kinds-kept : (k : ℕ) → ¬ (k ≡ p .handles) → getD (o .lent .kinds) k 0 ≡ getD (l .kinds) k 0
+  tables-kept : (i : Miner) (k : ℕ) → ¬ New p (o .answer .place) k → getD (table i (o .lent .tables)) k 0 ≡ getD (table i (l .tables)) k 0
+  kinds-kept : (k : ℕ) → ¬ New p (o .answer .place) k → getD (o .lent .kinds) k 0 ≡ getD (l .kinds) k 0
   inputs-kept : o .lent .inputs ≡ l .inputs
   tapes-kept : o .lent .tapes ≡ l .tapes
   sizes-kept : sizes (o .lent) ≡ sizes l
@@ -386,7 +243,7 @@ module _ (n : ℕ) (c : Command) (p : Place) (l : Lent) where
   code-opens x e = opens-at-11 n (c .code) x (has-passed x e .known)
 
   accepts-open : (x : Code) → decision ≡ Accepted x → c .code ≡ 11 → decision ≡ Accepted Open
-  accepts-open x e f = e ∙ ap Accepted (found-same (sym (has-passed x e .known) ∙ ap find f))
+  accepts-open x e f = e ∙ ap Accepted (same-code (has-passed x e .known) (ap find f))
 
   not-opened-by : (v : Verdict) → decision ≡ v → ¬ (c .code ≡ 11) → decided n v c p l .answer .opened ≡ 0
   unfolding accepted
@@ -437,7 +294,7 @@ module _ (n : ℕ) (c : Command) (p : Place) (l : Lent) where
 
     opened-by : (v : Verdict) → decision ≡ v → c .code ≡ 11 → number v ≡ 0 → Opened n c p l
     opened-by (Accepted x) e f k = accepted-open (accepts-open x e f)
-    opened-by (Refused r) e f k = absurd (omega (arith, above-zero n c p (sizes l) (l .kinds) r e))
+    opened-by (Refused r) e f k = absurd (omega (arith, above-zero n c p l r e))
 
     shown-by : (v : Verdict) → decision ≡ v
         → cond (isOpen c (decided n v c p l .answer)) (decided n v c p l .answer .opened ∷ []) [] ≡ shown n v c (start n p l)
@@ -450,7 +307,7 @@ module _ (n : ℕ) (c : Command) (p : Place) (l : Lent) where
             (ap (λ (o : Outcome). o .answer .opened) (sym (command-accepts x e)) ∙ accepted-open (accepts-open x e (eqb-true (c .code) 11 f)) .told)
         by-code false f = refl
     shown-by (Refused r) e =
-        ap (λ (b : Bool). cond (eqb (c .code) 11 && b) (0 ∷ []) []) (ne-eqb r 0 (λ f. omega (arith, above-zero n c p (sizes l) (l .kinds) r e)))
+        ap (λ (b : Bool). cond (eqb (c .code) 11 && b) (0 ∷ []) []) (ne-eqb r 0 (λ f. omega (arith, above-zero n c p l r e)))
         ∙ ap (λ (b : Bool). cond b (0 ∷ []) []) (and-false (eqb (c .code) 11))
 
     pub shown-after : cond (isOpen c (command n c p l .answer)) (command n c p l .answer .opened ∷ []) [] ≡ shown n (judge n c (sizes l) (start n p l)) c (start n p l)

@@ -1,38 +1,36 @@
 -- Judged, computed and written: what the code's steps come to is the command.
 use Prim.Native.Nat.{ℕ, zero, suc, _+_, _-_, _<_, _≤_, _^_}
-use mathlib.Core.Path.{_≡_, refl, sym, ap, ap₂, _∙_, subst}
-use mathlib.Core.Bool.{Bool, true, false, cond}
+use mathlib.Core.Path.{_≡_, refl, sym, ap, _∙_}
+use mathlib.Core.Bool.{Bool, true, false}
 use mathlib.Core.List.{List, [], _++_, append-nil, append-assoc}
 use native.Mathlib.Nat.{zero-add}
 use native.Mathlib.Omega.{arith}
-use borrow.Author.Tests.{le-leb, lt-leb, leb-true, leb-false}
+use borrow.Author.Tests.{le-leb, leb-true}
 use lib.Dec.{leb}
-use lib.ListN.{length, take, drop, set, length-drop, take-append-drop, drop-of-length-le}
+use lib.ListN.{length, take, drop, set, length-drop, drop-of-length-le}
 use lib.Seq.{sets, sets-eq, take-all, drop-drop}
-use Rattle.protocols.specs.declared.place.Party.{Party}
 use Rattle.protocols.specs.declared.place.Place.{Place}
-use Rattle.protocols.specs.declared.place.Received.{Received}
 use Rattle.protocols.specs.declared.shares.Shares.{Shares}
 use Rattle.protocols.specs.declared.message.Message.{Message}
 use Rattle.protocols.specs.Shares.{one, two, three}
-use Rattle.protocols.specs.Place.{Tapes, tape, count, Lists, lists, Receiver, miner, controller, list, silence, block}
+use Rattle.protocols.specs.Place.{Lists, lists, Receiver, miner, controller, list, silence, block}
 use Rattle.protocols.specs.Counts.{due}
 use Rattle.protocols.specs.Outcome.{message, sent, Delivery, delivered}
 use Rattle.protocols.proofs.Claims.{claims}
 use Rattle.machine.specs.declared.code.Code.{Code}
-use Rattle.machine.specs.declared.code.Code.the-variants.{Store, Add, Subtract, AddConstant, TimesConstant, Multiply, Reshare, Bits, Bit, Equal, Open, Below}
 use Rattle.machine.specs.declared.code.Command.{Command}
 use Rattle.machine.specs.declared.judge.Verdict.{Verdict}
 use Rattle.machine.specs.declared.judge.Verdict.the-variants.{Accepted, Refused}
 use Rattle.machine.specs.declared.effect.Effect.{Effect}
 use Rattle.machine.specs.Table.{row}
 use Rattle.machine.specs.Lent.{Tables, tables, Lent, lent, sizes}
-use Rattle.machine.specs.Verdict.{everyList, verdict}
+use Rattle.machine.specs.Verdict.{verdict}
 use Rattle.machine.specs.Steps.{protocol}
 use Rattle.machine.specs.Command.{Outcome, answer, outcome, given, withWords, decided, command}
 use Rattle.machine.specs.Command as spec
-use Rattle.machine.specs.Effect.{Fits, Ready, refused, accepted, computed, effect, stored, append, tailWritten, deliveredAll, Left, leaves, applied}
-use Rattle.machine.proofs.Laws.Accepted.{every-list, all-passed, has-room}
+use Rattle.machine.specs.Effect.{Ready, accepted, computed, effect, stored, append, tailWritten, deliveredAll, Left, leaves, applied}
+use Rattle.machine.proofs.Laws.Accepted.{all-passed, has-room}
+use Rattle.machine.proofs.Laws.Rows.{few-words}
 use Rattle.machine.proofs.Laws.Steps.{count-lengths, steps-counted}
 use Rattle.machine.proofs.Laws.Entries.{due-listLengths}
 
@@ -84,24 +82,6 @@ append-some zero at s kind t kinds h = absurd (h refl)
 append-some (suc v) at s kind t kinds h = refl
 
 -- ---- words for every party
-
--- no command has over 28 words for a party
-few-words : (x : Code) (r : Receiver) → due r (row 5 x .received) ≤ 28
-few-words x r = leb-true (due r (row 5 x .received)) 28 (every-list (λ q. leb (due q (row 5 x .received)) 28) (tested x) r)
-  where
-    tested : (y : Code) → everyList (λ q. leb (due q (row 5 y .received)) 28) ≡ true
-    tested Store = refl
-    tested Add = refl
-    tested Subtract = refl
-    tested AddConstant = refl
-    tested TimesConstant = refl
-    tested Multiply = refl
-    tested Reshare = refl
-    tested Bits = refl
-    tested Bit = refl
-    tested Equal = refl
-    tested Open = refl
-    tested Below = refl
 
 all-words : (p : Place) (w l : Lists) → ((r : Receiver) → due r (p .received) + length (list r w) ≤ length (list r l)) → ((r : Receiver) → length (list r w) ≤ 28)
     → deliveredAll (p .received) (sent w) l ≡ withWords l p w

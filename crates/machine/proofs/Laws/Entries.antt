@@ -63,9 +63,9 @@ entry-set-old l k w h i j = getD-set-other l k (h - 1) w 0 (omega arith)
 pub entry-set-new : (l : List ℕ) (k w : ℕ) → k < length l → entry (set l k w) (suc k) ≡ w
 entry-set-new l k w h = ap (λ (i : ℕ). getD (set l k w) i 0) (omega arith) ∙ getD-set-same l k w 0 h
 
-pub getD-put : (v : ℕ) (l : List ℕ) (k w i : ℕ) → ¬ (i ≡ k) → getD (put v l k w) i 0 ≡ getD l i 0
+pub getD-put : (v : ℕ) (l : List ℕ) (k w i : ℕ) → ¬ ((k ≤ i) × (i < k + v)) → getD (put v l k w) i 0 ≡ getD l i 0
 getD-put zero l k w i h = refl
-getD-put (suc v) l k w i h = getD-set-other l k i w 0 h
+getD-put (suc v) l k w i h = getD-set-other l k i w 0 (λ e. h (omega (arith, e)))
 
 pub length-put : (v : ℕ) (l : List ℕ) (k w : ℕ) → length (put v l k w) ≡ length l
 length-put zero l k w = refl

@@ -1,7 +1,7 @@
 -- The test of the filled kinds, one kind at a time.
 use Prim.Native.Nat.{ℕ, suc, _+_, _-_, _<_, _≤_}
 use mathlib.Core.Path.{_≡_, ap, _∙_}
-use mathlib.Core.Bool.{Bool, true, false, _&&_}
+use mathlib.Core.Bool.{Bool, true, _&&_}
 use mathlib.Core.List.{List}
 use native.Mathlib.Omega.{arith}
 use native.Mathlib.Numerals.{add-one}

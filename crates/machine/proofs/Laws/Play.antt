@@ -1,20 +1,16 @@
 -- A protocol that is lent only the tapes that it draws from, and what an accepted command's protocol does.
-use Prim.Native.Nat.{ℕ, _+_, _-_, _<_, _≤_}
-use mathlib.Core.Path.{_≡_, refl, sym, ap, ap₂, _∙_, subst}
+use Prim.Native.Nat.{ℕ, _-_, _<_}
+use mathlib.Core.Path.{_≡_, refl, sym, ap, _∙_}
 use mathlib.Core.List.{List, []}
 use native.Mathlib.Omega.{arith}
-use lib.ListN.{length}
 use Rattle.protocols.specs.declared.place.Party.{Party}
 use Rattle.protocols.specs.declared.place.Party.the-variants.{Provider, One, Two, Three}
-use Rattle.protocols.specs.declared.place.Drawn.{Drawn}
 use Rattle.protocols.specs.declared.place.Place.{Place}
 use Rattle.protocols.specs.declared.shares.Shares.{Shares}
-use Rattle.protocols.specs.Place.{Tapes, tapes, tape, count, counts, silence, advance, block}
+use Rattle.protocols.specs.Place.{Tapes, tapes, tape, count, counts, silence}
 use Rattle.protocols.specs.Protocol.{Protocol, on, locally, done, perform}
 use Rattle.protocols.specs.Outcome.{outcome}
-use Rattle.protocols.specs.Claims.{Lacks}
 use Rattle.protocols.proofs.Claims.{claims}
-use Rattle.protocols.proofs.Laws.Blocks.{block-same}
 use Rattle.protocols.proofs.Laws.Perform.{perform-on, perform-locally}
 use Rattle.protocols.specs.declared.outcome.Outcome.{Outcome}
 use Rattle.machine.specs.declared.code.Code.{Code}
@@ -25,9 +21,9 @@ use Rattle.machine.specs.declared.given.Given.{Given}
 use Rattle.machine.specs.Table.{row}
 use Rattle.machine.specs.Lent.{Tables}
 use Rattle.machine.specs.Steps.{protocol}
-use Rattle.machine.specs.Command.{moved, given}
+use Rattle.machine.specs.Command.{given}
 use Rattle.machine.specs.Effect.{Ready, counted, openedBy, accepted}
-use Rattle.machine.proofs.Laws.Steps.{steps-counted}
+use Rattle.machine.proofs.Laws.Steps.{performs}
 
 -- ---- on all four tapes
 
@@ -74,21 +70,6 @@ lent-nothing part f s p t = ap (outcome p) (sym (perform-on part (locally f) s p
 
 -- ---- an accepted command
 
--- with the other counts moved before the draws, the place record is the row's
-pub plays : (x : Code) (b : ℕ) (g : Given) (p : Place) (t : Tapes) → Ready x p t
-    → let f = protocol 5 x b in
-    let w = block (f .draws) p t in
-    perform f g (counted p (row 5 x)) t ≡ done (f .result g w) (f .received g w) (moved p (row 5 x))
-plays x b g p t r =
-    let f = protocol 5 x b in
-    let q = counted p (row 5 x) in
-    let drawn : f .draws ≡ row 5 x .drawn = steps-counted 5 x b .drawn in
-    claims .on-tapes f g q t .done-if (λ i h. never i (subst (λ (d : Drawn). Lacks d q t i) drawn h))
-    ∙ ap₂ (λ (w : Tapes) (d : Drawn). done (f .result g w) (f .received g w) (advance q d)) (block-same (f .draws) q p t refl) drawn
-  where
-    never : (i : Party) → ¬ Lacks (row 5 x .drawn) (counted p (row 5 x)) t i
-    never i h = omega (arith, r .tapes i, h)
-
 -- what is made of a protocol's outcome
 abbrev Made : Row → Outcome → ℕ → Effect
 Made r o w = record { number = o .number; place = o .place; opened = w; values = r .values; kind = r .kind; shares = o .shares; sent = o .sent }
@@ -101,6 +82,6 @@ pub accepted-made : (x : Code) (c : Command) (p : Place) (t : Tables) (inputs : 
 unfolding accepted
 accepted-made x c p t inputs s h er eg eq eo ew =
     let at = eq ∙ ap (counted p) er in
-    let done-at = eo ∙ (λ i. outcome (at i) (perform (protocol 5 x (c .b)) (eg i) (at i) s)) ∙ ap (outcome (counted p (row 5 x))) (plays x (c .b) (given t inputs p c) p s h) in
+    let done-at = eo ∙ (λ i. outcome (at i) (perform (protocol 5 x (c .b)) (eg i) (at i) s)) ∙ ap (outcome (counted p (row 5 x))) (performs 5 x (c .b) (given t inputs p c) p (counted p (row 5 x)) s refl (λ i lacks. omega (arith, h .tapes i, lacks))) in
     let word = ew ∙ (λ i. openedBy (er i) (done-at i .shares)) in
     λ i. Made (er i) (done-at i) (word i)

@@ -1,11 +1,10 @@
 -- Entry 1: every command is answered by the table of refusals.
 use Prim.Native.Nat.{ℕ, suc, _-_, _≤_, _<_}
-use mathlib.Core.Path.{_≡_, refl, sym, ap, _∙_, subst}
+use mathlib.Core.Path.{_≡_, refl, ap, _∙_, subst}
 use mathlib.Core.Logic.{_↔_, _⊎_, inl, inr}
-use mathlib.Core.Bool.{Bool, cond}
+use mathlib.Core.Bool.{Bool}
 use native.Mathlib.Omega.{arith}
 use native.Mathlib.Nat.{eq-or-lt-of-le}
-use lib.Dec.{eqb}
 use lib.Pow.{pow-pos}
 use lib.ListN.{length, getD}
 use Rattle.protocols.specs.declared.place.Party.{Party}
@@ -15,19 +14,19 @@ use Rattle.protocols.specs.Shares.{Miner, one}
 use Rattle.protocols.specs.Place.{tape, count, Receiver, list}
 use Rattle.protocols.specs.Counts.{due}
 use Rattle.machine.specs.declared.code.Code.{Code}
-use Rattle.machine.specs.declared.code.Code.the-variants.{Store, Add, Subtract, AddConstant, TimesConstant, Multiply, Reshare, Bits, Bit, Equal, Open, Below}
 use Rattle.machine.specs.declared.code.Lookup.{Lookup}
-use Rattle.machine.specs.declared.code.Lookup.the-variants.{Found, Missing}
+use Rattle.machine.specs.declared.code.Lookup.the-variants.{Found}
 use Rattle.machine.specs.declared.row.Use.the-variants.{Unused, Handle, Position}
 use Rattle.machine.specs.declared.judge.Verdict.{Verdict}
 use Rattle.machine.specs.declared.judge.Verdict.the-variants.{Accepted, Refused}
 use Rattle.machine.specs.declared.code.Command.{Command}
 use Rattle.machine.specs.Table.{find, row}
 use Rattle.machine.specs.Lent.{Lent, sizes, table, entry, Filled}
-use Rattle.machine.specs.Verdict.{test, sameLength, within, sound, unusedZero, handlesFilled, kindsFit, inWord, tablesHave, inputsHave, tapesHave, listsHave, judged, looked-up, verdict}
+use Rattle.machine.specs.Verdict.{number, test, sameLength, within, sound, unusedZero, handlesFilled, kindsFit, inWord, tablesHave, inputsHave, tapesHave, listsHave, judged, looked-up, verdict}
 use Rattle.machine.specs.Command.{answer, outcome, accepted, decided, command}
 use Rattle.machine.specs.Refusals.{Counter, handles, inputs, drawn, received, counted, listLength, Field, field, use-of, Applies, lengths-differ, place-beyond, no-kind, no-code, unused-field, not-filled, wrong-kind, over-position, tables-full, inputs-used, tape-spent, list-full, Lowest}
 use Rattle.machine.specs.Claims.{Entry1}
+use Rattle.machine.proofs.Laws.Rows.{values-at-most-1, takes-input, Known, found, missing, known, same-code}
 use Rattle.machine.proofs.Laws.Tests.{Decides, holds, fails, same-as, and, stable, by-le, by-lt, by-eq, some-field, some-miner, four, some-tape, some-list, if-unused, if-handle, if-position, by-filled, stable-filled, NoKind, by-kinds}
 
 -- ---- a chain of tests gives the lowest number that applies
@@ -50,68 +49,10 @@ step : {A : ℕ → Type 0} {b : Bool} {v : Verdict} (k : ℕ) → Decides (A k)
 step k (holds h) next = lower h (next h)
 step k (fails h) next = refuses k h (λ q f g. absurd (omega arith))
 
--- ---- 5: the code words from 1 to 12 have a command
-
--- what is looked up for the code word k, of the codes from j
-data Known (j k : ℕ) : Lookup → Type 0 where
-  found : (x : Code) → j ≤ k → k ≤ 12 → Known j k (Found x)
-  missing : ¬ ((j ≤ k) × (k ≤ 12)) → Known j k Missing
-
-or-next : {k : ℕ} {y : Lookup} (j : ℕ) (x : Code) → j ≤ 12 → Known (suc j) k y → Known j k (cond (eqb k j) (Found x) y)
-or-next {k} j x h next = go (by-eq k j) next
-  where
-    go : {b : Bool} {y : Lookup} → Decides (¬ (k ≡ j)) b → Known (suc j) k y → Known j k (cond b (Found x) y)
-    go (holds n) t = found x (omega (arith, stable k j n)) (omega (arith, stable k j n))
-    go (fails n) (found z f g) = found z (omega arith) g
-    go (fails n) (missing m) = missing (λ q. m (omega arith))
-
-known : (k : ℕ) → Known 1 k (find k)
-known k =
-    or-next 1 Store (omega arith) (or-next 2 Add (omega arith) (or-next 3 Subtract (omega arith) (or-next 4 AddConstant (omega arith)
-    (or-next 5 TimesConstant (omega arith) (or-next 6 Multiply (omega arith) (or-next 7 Reshare (omega arith) (or-next 8 Bits (omega arith)
-    (or-next 9 Bit (omega arith) (or-next 10 Equal (omega arith) (or-next 11 Open (omega arith) (or-next 12 Below (omega arith)
-    (missing (λ q. omega arith)))))))))))))
-
-same-code : {y : Lookup} {x z : Code} → y ≡ Found x → y ≡ Found z → x ≡ z
-same-code {x} e f = ap code-of (sym e ∙ f)
-  where
-    code-of : Lookup → Code
-    code-of (Found y) = y
-    code-of Missing = x
-
--- ---- 10 and 11: the counts of the rows
-
--- a row has one new value or none
-one-value : (n : ℕ) (x : Code) → 0 < row n x .values → row n x .values ≡ 1
-one-value n Store h = refl
-one-value n Add h = refl
-one-value n Subtract h = refl
-one-value n AddConstant h = refl
-one-value n TimesConstant h = refl
-one-value n Multiply h = refl
-one-value n Reshare h = refl
-one-value n Bits h = refl
-one-value n Bit h = refl
-one-value n Equal h = refl
-one-value n Open h = omega arith
-one-value n Below h = refl
-
--- store alone takes an input
-takes-input : (n : ℕ) (x : Code) → 0 < row n x .inputs → x ≡ Store
-takes-input n Store h = refl
-takes-input n Add h = absurd (omega arith)
-takes-input n Subtract h = absurd (omega arith)
-takes-input n AddConstant h = absurd (omega arith)
-takes-input n TimesConstant h = absurd (omega arith)
-takes-input n Multiply h = absurd (omega arith)
-takes-input n Reshare h = absurd (omega arith)
-takes-input n Bits h = absurd (omega arith)
-takes-input n Bit h = absurd (omega arith)
-takes-input n Equal h = absurd (omega arith)
-takes-input n Open h = absurd (omega arith)
-takes-input n Below h = absurd (omega arith)
-
 -- ---- each test decides its line of the table
+
+row-value : (n : ℕ) (x : Code) → 0 < row n x .values → row n x .values ≡ 1
+row-value n x h = omega (arith, h, values-at-most-1 n x)
 
 module _ (n : ℕ) (c : Command) (p : Place) (l : Lent) where
   -- the numbers of the table
@@ -243,7 +184,7 @@ module _ (n : ℕ) (c : Command) (p : Place) (l : Lent) where
         Line y = length (l .tables .one) - p .handles < row n y .values
 
         to : Line x → Applies n c p l 10
-        to h = let v = one-value n x (omega arith) in tables-full x e v (omega (arith, v))
+        to h = let v = row-value n x (omega arith) in tables-full x e v (omega (arith, v))
 
         from : Applies n c p l 10 → Line x
         from (tables-full y k v h) = subst Line (same-code k e) (omega arith)
@@ -325,6 +266,18 @@ module _ (n : ℕ) (c : Command) (p : Place) (l : Lent) where
   unfolding accepted
   accepted-at (accepts x none) = (λ e r s. none r (bounds s .0) s, λ h. refl)
   accepted-at (refuses r s below) = (λ e. absurd (omega (arith, bounds s)), λ h. absurd (h r s))
+
+refused-applies : {A : ℕ → Type 0} {k : ℕ} {v : Verdict} → Exact A k v → (r : ℕ) → v ≡ Refused r → A r
+refused-applies {A} (accepts x none) r e = absurd (subst tells e tt)
+  where
+    tells : Verdict → Type 0
+    tells (Accepted x) = Unit {0}
+    tells (Refused r) = ⊥
+refused-applies {A} (refuses q s below) r e = subst A (ap number e) s
+
+-- a refusal has a number of the table
+pub above-zero : (n : ℕ) (c : Command) (p : Place) (l : Lent) (r : ℕ) → verdict n c p (sizes l) (l .kinds) ≡ Refused r → 0 < r
+above-zero n c p l r e = omega (arith, bounds n c p l (refused-applies (exact n c p l) r e))
 
 pub entry-1 : (n : ℕ) (c : Command) (p : Place) (l : Lent) → Entry1 n c p l
 unfolding command

@@ -1,6 +1,6 @@
 -- What each command's protocol draws, delivers and makes, and what its new shares combine to: by the claims of the protocols.
 use Prim.Native.Nat.{ℕ, _-_, _<_}
-use mathlib.Core.Path.{_≡_, refl, ap, _∙_, subst}
+use mathlib.Core.Path.{_≡_, refl, ap₂, _∙_, subst₂}
 use native.Mathlib.Omega.{arith}
 use borrow.Author.Tests.{leb-true}
 use lib.Dec.{leb}
@@ -14,11 +14,12 @@ use Rattle.protocols.specs.declared.place.Place.{Place}
 use Rattle.protocols.specs.Word.{width, modulus}
 use Rattle.protocols.specs.Shares.{AreWords}
 use Rattle.protocols.specs.Place.{Tapes, tape, count, inOrder, advance, block}
-use Rattle.protocols.specs.Protocol.{Protocol, on, done}
+use Rattle.protocols.specs.Protocol.{Protocol, on, done, perform}
 use Rattle.protocols.specs.Contents.{Contents}
 use Rattle.protocols.specs.Counts.{Counted}
 use Rattle.protocols.specs.Claims.{RingCombines, BitsCombine, Lacks}
 use Rattle.protocols.proofs.Claims.{claims}
+use Rattle.protocols.proofs.Laws.Blocks.{block-same}
 use Rattle.machine.specs.declared.code.Code.{Code}
 use Rattle.machine.specs.declared.code.Code.the-variants.{Store, Add, Subtract, AddConstant, TimesConstant, Multiply, Reshare, Bits, Bit, Equal, Open, Below}
 use Rattle.machine.specs.declared.given.Given.{Given}
@@ -113,13 +114,18 @@ never-lacks n x c p l a i lacks =
     let has = leb-true (count i (row n x .drawn)) (count i (tapeLengths (l .tapes)) - count i (p .drawn)) left in
     omega (arith, has, count-lengths i (l .tapes), lacks)
 
+-- a command's protocol where every tape has the words of its row, from a place q with the same words drawn as at p
+pub performs : (n : ℕ) (x : Code) (b : ℕ) (g : Given) (p q : Place) (t : Tapes) → q .drawn ≡ p .drawn → ((i : Party) → ¬ Lacks (row n x .drawn) p t i)
+    → let f = protocol n x b in
+    let w = block (f .draws) p t in
+    perform f g q t ≡ done (f .result g w) (f .received g w) (advance q (row n x .drawn))
+performs n x b g p q t e never =
+    let f = protocol n x b in
+    let drawn : f .draws ≡ row n x .drawn = steps-counted n x b .drawn in
+    claims .on-tapes f g q t .done-if (λ i lacks. never i (subst₂ (λ (d k : Drawn). length (tape i t) - count i k < count i d) drawn e lacks))
+    ∙ ap₂ (λ (w : Tapes) (d : Drawn). done (f .result g w) (f .received g w) (advance q d)) (block-same (f .draws) q p t e) drawn
+
 -- on lent tapes an accepted command's protocol is never spent
 pub never-spent : (n : ℕ) (c : Command) (p : Place) (l : Lent) → NeverSpent n c p l
-never-spent n c p l x e =
-    let f = protocol n x (c .b) in
-    let g = given (l .tables) (l .inputs) p c in
-    let t = block (f .draws) p (l .tapes) in
-    let drawn : f .draws ≡ row n x .drawn = steps-counted n x (c .b) .drawn in
-    let lacks-none = never-lacks n x c p l (all-passed n x c p (sizes l) (l .kinds) e) in
-    claims .on-tapes f g p (l .tapes) .done-if (λ i lacks. lacks-none i (subst (λ (d : Drawn). Lacks d p (l .tapes) i) drawn lacks))
-    ∙ ap (λ (d : Drawn). done (f .result g t) (f .received g t) (advance p d)) drawn
+never-spent n c p l x e q same =
+    performs n x (c .b) (given (l .tables) (l .inputs) p c) p q (l .tapes) same (never-lacks n x c p l (all-passed n x c p (sizes l) (l .kinds) e))
