@@ -213,19 +213,28 @@ def show(label, name, u, v, w, *rest):
     print(label, name, *(item for x in COMMANDS[name][0] for item in operands[x]), *rest)
 
 
-kept = {}
-for label, (name, u, v, w, tapes, given) in WORKED.items():
-    number, shares, _, kept[label] = perform(name, u, v, w, [0] * 10, tapes)
-    value = shares[0] ^ shares[1] ^ shares[2] if name == "bits" else sum(shares) % RING
-    assert given in (shares, value)
-    show(label, name, u, v, w, "number", number, "shares", *shares, "value", value)
-assert [word for label in ("M1", "M2", "M3", "M4") for word in kept[label][0]] == [1, 3, 50, 60, 24, 18, 90]
-for words, filled in [(kept["M4"][3], n) for n in (29, 27, 30)] + [(kept["M12"][1], n) for n in (4, 2, 5)]:
-    lent, fits = list(range(100, 132)), len(words) <= 32 - filled  # words go to the front of the tail, if they fit
-    lent[filled : filled + len(words) * fits] = words * fits
-    print("deliver", len(words), "words into", 32 - filled, "done", int(fits), "list", *lent)
-words = words_from(1)
-for name, (*_, need) in COMMANDS.items():
+def worked():
+    """M1 to M12, and what miner 1 receives in the session of M1 to M4."""
+    kept = {}
+    for label, (name, u, v, w, tapes, given) in WORKED.items():
+        number, shares, _, kept[label] = perform(name, u, v, w, [0] * 10, tapes)
+        value = shares[0] ^ shares[1] ^ shares[2] if name == "bits" else sum(shares) % RING
+        assert given in (shares, value)
+        show(label, name, u, v, w, "number", number, "shares", *shares, "value", value)
+    assert [word for label in ("M1", "M2", "M3", "M4") for word in kept[label][0]] == [1, 3, 50, 60, 24, 18, 90]
+    return kept
+
+
+def deliveries(kept):
+    """Words go to the front of the tail, if they fit."""
+    for words, filled in [(kept["M4"][3], n) for n in (29, 27, 30)] + [(kept["M12"][1], n) for n in (4, 2, 5)]:
+        lent, fits = list(range(100, 132)), len(words) <= 32 - filled
+        lent[filled : filled + len(words) * fits] = words * fits
+        print("deliver", len(words), "words into", 32 - filled, "done", int(fits), "list", *lent)
+
+
+def cases(name, need, words):
+    """A protocol's generated cases: three in full, the tapes that end too soon, and two hundred as a checksum."""
     for n in (1, 2, 3):
         operands, tapes, _ = generated(name, words)
         number, shares, place, received = perform(name, *operands, tapes)
@@ -247,3 +256,10 @@ for name, (*_, need) in COMMANDS.items():
         for word in (number, *shares, *place, *(word for list_ in received for word in (len(list_), *list_))):
             h = (31 * h + word) % RING
     print("checksum", name, h)
+
+
+if __name__ == "__main__":
+    deliveries(worked())
+    generator = words_from(1)
+    for protocol, (*_, drawn) in COMMANDS.items():
+        cases(protocol, drawn, generator)
