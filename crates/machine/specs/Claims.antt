@@ -9,7 +9,7 @@ use Rattle.protocols.specs.declared.place.Place.{Place}
 use Rattle.protocols.specs.declared.shares.Shares.{Shares}
 use Rattle.protocols.specs.Word.{modulus}
 use Rattle.protocols.specs.Shares.{Miner, sumOf}
-use Rattle.protocols.specs.Place.{counts, Receiver, list, inOrder, advance, block}
+use Rattle.protocols.specs.Place.{counts, Lists, Receiver, list, inOrder, advance, block}
 use Rattle.protocols.specs.Protocol.{done, perform}
 use Rattle.protocols.specs.Counts.{received, due}
 use Rattle.machine.specs.declared.code.Command.{Command}
@@ -34,8 +34,9 @@ use Rattle.machine.specs.Refusals.{Applies, Lowest}
 abbrev pub Line : ℕ → Code → Row → Type 0
 Line number x r = (find number ≡ Found x) × (row 5 x ≡ r)
 
+-- number and command; use of a and b; kinds of operands and new value; new values; inputs; received by miners 1, 2, 3 and controller;
+-- drawn by provider and miners 1, 2, 3
 pub record TableAt32 : Type 0 where
-  --               code           a      b        kinds, values, inputs  received               drawn
   pub store : Line 1 Store (line Unused Unused 1 1 1 1 (received 1 1 1 0) (counts 2 0 0 0))
   pub add : Line 2 Add (line Handle Handle 1 1 1 0 (received 0 0 0 0) (counts 0 0 0 0))
   pub subtract : Line 3 Subtract (line Handle Handle 1 1 1 0 (received 0 0 0 0) (counts 0 0 0 0))
@@ -49,7 +50,7 @@ pub record TableAt32 : Type 0 where
   pub opening : Line 11 Open (line Handle Unused 1 1 0 0 (received 1 1 1 3) (counts 0 1 1 1))
   pub below : Line 12 Below (line Handle Handle 1 1 1 0 (received 22 28 28 0) (counts 0 18 12 12))
 
--- ---- 1. Entry 1: every command is answered by the table.
+-- ---- parts of a statement
 
 -- words after the first k of a list, all else as it was
 abbrev pub Appended : List ℕ → ℕ → List ℕ → List ℕ → Type 0
@@ -59,12 +60,15 @@ Appended before k words now = now ≡ take k before ++ (words ++ drop (k + lengt
 abbrev pub New : Place → Place → ℕ → Type 0
 New p q k = (p .handles ≤ k) × (k < q .handles)
 
+-- the command c at the place p
 module _ (n : ℕ) (c : Command) (p : Place) (l : Lent) where
   abbrev pub after : Outcome
   after = command n c p l
 
   abbrev pub answered : ℕ
   answered = after .answer .number
+
+  -- ---- 1. Entry 1: every command is answered by the table.
 
   pub record Entry1 : Type 0 where
     -- 'a refused command changes no share, received word or place on a tape', and opens 0
@@ -75,11 +79,17 @@ module _ (n : ℕ) (c : Command) (p : Place) (l : Lent) where
 
   -- ---- 2. Entry 2: after each command the shares combine to what the register machine holds.
 
-  -- of an accepted command x: the words drawn are its row's, and each list has its row's words more
+  -- what the parties receive from the protocol of x, on the next words of the tapes
+  abbrev pub delivered : Code → Lists
+  delivered x =
+      let f = protocol n x (c .b) in
+      f .received (given (l .tables) (l .inputs) p c) (block (f .draws) p (l .tapes))
+
+  -- of an accepted command x: it draws its row's words, and each list has its row's words more, those of its protocol on the words drawn
   pub record Counts (x : Code) : Type 0 where
     pub drawn : protocol n x (c .b) .draws ≡ row n x .drawn
-    pub grown : (r : Receiver) → (words : List ℕ) × (length words ≡ due r (row n x .received))
-        × Appended (list r (l .received)) (due r (p .received)) words (list r (after .lent .received))
+    pub long : (r : Receiver) → length (list r (delivered x)) ≡ due r (row n x .received)
+    pub grown : (r : Receiver) → Appended (list r (l .received)) (due r (p .received)) (list r (delivered x)) (list r (after .lent .received))
 
   -- of an accepted open: 'an open hands the controller three shares that add up to the register's word', and answers it
   pub record Opened : Type 0 where
@@ -96,11 +106,13 @@ module _ (n : ℕ) (c : Command) (p : Place) (l : Lent) where
     pub combine : (h : ℕ) → Filled (after .answer .place) h → let r = named (step n c (sizes l) (l .inputs) (start n p l) .held) h in
         (entry (after .lent .kinds) h ≡ r .kind) × (combined (modulus n) (r .kind) (sharesAt (after .lent .tables) h) ≡ r .word)
     pub counts : (x : Code) → verdict n c p (sizes l) (l .kinds) ≡ Accepted x → Counts x
+    -- 'the opened word (0 unless an open was accepted)'; a refused open answers 0 by entry 1
     pub opened : c .code ≡ 11 → answered ≡ 0 → Opened
     pub not-opened : ¬ (c .code ≡ 11) → after .answer .opened ≡ 0
     -- no entry but the new handle's is written
     pub tables-kept : (i : Miner) (k : ℕ) → ¬ New p (after .answer .place) k → getD (table i (after .lent .tables)) k 0 ≡ getD (table i (l .tables)) k 0
     pub kinds-kept : (k : ℕ) → ¬ New p (after .answer .place) k → getD (after .lent .kinds) k 0 ≡ getD (l .kinds) k 0
+    -- all else stays, and words stay words
     pub inputs-kept : after .lent .inputs ≡ l .inputs
     pub tapes-kept : after .lent .tapes ≡ l .tapes
     pub sizes-kept : sizes (after .lent) ≡ sizes l

@@ -329,7 +329,8 @@ entry-2 n c p l w =
           (sym (named-start n (o .answer .place) (o .lent) h f) ∙ ap (λ (m : Registers). named (m .held) h) (start-after n c p l w));
       counts = λ x e. let f = steps-counted n x (c .b) in record {
         drawn = f .drawn;
-        grown = λ r. (list r (sends n c p l x), f .long (takes n c p l x) (draws n c p l x) r, appended-by n c p l w x e r);
+        long = f .long (takes n c p l x) (draws n c p l x);
+        grown = appended-by n c p l w x e;
       };
       opened = λ f e. opened-by n c p l w v refl f (sym (number-decided n c p l v) ∙ e);
       not-opened = not-opened-by n c p l v refl;

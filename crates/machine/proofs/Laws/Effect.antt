@@ -28,7 +28,7 @@ use Rattle.machine.specs.Verdict.{verdict}
 use Rattle.machine.specs.Steps.{protocol}
 use Rattle.machine.specs.Command.{Outcome, answer, outcome, given, withWords, decided, command}
 use Rattle.machine.specs.Command as spec
-use Rattle.machine.specs.Effect.{Ready, accepted, computed, effect, stored, append, tailWritten, deliveredAll, Left, leaves, applied}
+use Rattle.machine.specs.Effect.{Ready, refused, accepted, computed, effect, stored, append, tailWritten, deliveredAll, Left, leaves, applied}
 use Rattle.machine.proofs.Laws.Accepted.{all-passed, has-room}
 use Rattle.machine.proofs.Laws.Rows.{few-words}
 use Rattle.machine.proofs.Laws.Steps.{count-lengths, steps-counted}
@@ -101,7 +101,7 @@ all-nothing p l =
 -- ---- the command
 
 -- what is answered and left
-abbrev pub leaving : Effect → Lent → Left → Outcome
+abbrev leaving : Effect → Lent → Left → Outcome
 leaving e l r = outcome (answer (e .number) (e .place) (e .opened)) (lent (r .stored .tables) (r .stored .kinds) (l .inputs) (l .tapes) (r .received))
 
 module _ (c : Command) (p : Place) (l : Lent) where
@@ -121,17 +121,33 @@ module _ (c : Command) (p : Place) (l : Lent) where
       (leaves (append (row 5 x .values) (p .handles) (f .result g b) (row 5 x .kind) (l .tables) (l .kinds)) r)) (all-words p (f .received g b) (l .received) fits few)
   by-verdict (Refused r) e = ap (λ (w : Lists). outcome (answer r p 0) (lent (l .tables) (l .kinds) (l .inputs) (l .tapes) w)) (all-nothing p (l .received))
 
-  pub effect-is-command : let e = effect c p l in leaving e l (applied e p (stored (l .tables) (l .kinds)) (l .received)) ≡ command 5 c p l
+  effect-is-command : let e = effect c p l in leaving e l (applied e p (stored (l .tables) (l .kinds)) (l .received)) ≡ command 5 c p l
   unfolding effect command
   effect-is-command = by-verdict (verdict 5 c p (sizes l) (l .kinds)) refl
+
+  -- computed as e and written as r
+  pub command-made : {e : Effect} {r : Left} → e ≡ effect c p l → r ≡ applied e p (stored (l .tables) (l .kinds)) (l .received) → leaving e l r ≡ command 5 c p l
+  command-made {e} ee er =
+      ap (λ (w : Left). leaving e l w) er ∙ (λ i. leaving (ee i) l (applied (ee i) p (stored (l .tables) (l .kinds)) (l .received))) ∙ effect-is-command
+
+  -- ---- by the verdict v
+
+  pub refused-made : {v : Verdict} {e : Effect} {r : ℕ} → v ≡ verdict 5 c p (sizes l) (l .kinds) → v ≡ Refused r → e ≡ refused r p → e ≡ effect c p l
+  unfolding effect
+  refused-made ev er ee = ee ∙ ap (λ (v : Verdict). computed v c p l) (sym er ∙ ev)
+
+  pub accepted-made : {v : Verdict} {e : Effect} {x : Code} → v ≡ verdict 5 c p (sizes l) (l .kinds) → v ≡ Accepted x
+      → e ≡ accepted 5 x c p (l .tables) (l .inputs) (l .tapes) → e ≡ effect c p l
+  unfolding effect
+  accepted-made ev ex ee = ee ∙ ap (λ (v : Verdict). computed v c p l) (sym ex ∙ ev)
 
 -- ---- an accepted command can be computed
 
 pub ready : (x : Code) (c : Command) (p : Place) (l : Lent) → length (l .tables .one) < 2 ^ 64 → length (l .inputs) < 2 ^ 64
     → length (l .received .one) < 2 ^ 64 → length (l .received .two) < 2 ^ 64 → length (l .received .three) < 2 ^ 64 → length (l .received .controller) < 2 ^ 64
-    → verdict 5 c p (sizes l) (l .kinds) ≡ Accepted x → Ready x p (l .tapes)
-ready x c p l h i r s t k e =
-    let a = has-room (all-passed 5 x c p (sizes l) (l .kinds) e) in
+    → {v : Verdict} → v ≡ verdict 5 c p (sizes l) (l .kinds) → v ≡ Accepted x → Ready x p (l .tapes)
+ready x c p l h i r s t k ev ex =
+    let a = has-room (all-passed 5 x c p (sizes l) (l .kinds) (sym ev ∙ ex)) in
     record {
       fits = record {
         handles = omega (arith, h, a .handles);

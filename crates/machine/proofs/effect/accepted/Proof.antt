@@ -1,5 +1,5 @@
 -- `machine::effect::accepted` meets its contract.
-use Rattle.machine.proofs.Laws.Play.{accepted-made}
+use Rattle.machine.proofs.Laws.Play.{computed-made}
 use Rattle.machine.proofs.effect.accepted.Statement.{statement}
 use Rattle.machine.proofs.effect.accepted.Tie as tie
 
@@ -19,7 +19,7 @@ opened-requires : tie.Need-opened-requires
 opened-requires c κs = tt
 
 returns : tie.Need-returns
-returns c = accepted-made ((c .before .before .before .before .before .before .before .before .before .before .before .before .before .before .before .before .args) .code) ((c .before .before .before .before .before .before .before .before .before .before .before .before .before .before .before .before .args) .c) ((c .before .before .before .before .before .before .before .before .before .before .before .before .before .before .before .before .args) .p) _ _ _ ((c .before .before .before .before .before .before .before .before .before .before .before .before .before .before .before .before .pre)) ((c .before .before .before .before .before .before .before .of) .ensures) ((c .before .before .before .before .before .before .of2) .ensures) ((c .before .before .before .before .before .counted) .ensures) ((c .before .before .before .before .play) .ensures) ((c .opened) .ensures)
+returns c = computed-made ((c .before .before .before .before .before .before .before .before .before .before .before .before .before .before .before .before .args) .code) ((c .before .before .before .before .before .before .before .before .before .before .before .before .before .before .before .before .args) .c) ((c .before .before .before .before .before .before .before .before .before .before .before .before .before .before .before .before .args) .p) _ _ _ ((c .before .before .before .before .before .before .before .before .before .before .before .before .before .before .before .before .pre)) ((c .before .before .before .before .before .before .before .of) .ensures) ((c .before .before .before .before .before .before .of2) .ensures) ((c .before .before .before .before .before .counted) .ensures) ((c .before .before .before .before .play) .ensures) ((c .opened) .ensures)
 
 pub accepted-spec : {M : Type 1} → statement M
 accepted-spec =
