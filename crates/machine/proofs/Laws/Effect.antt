@@ -12,11 +12,13 @@ use lib.Seq.{sets, sets-eq, take-all, drop-drop}
 use Rattle.protocols.specs.declared.place.Place.{Place}
 use Rattle.protocols.specs.declared.shares.Shares.{Shares}
 use Rattle.protocols.specs.declared.message.Message.{Message}
+use Rattle.protocols.specs.declared.message.Sent.{Sent}
 use Rattle.protocols.specs.Shares.{one, two, three}
 use Rattle.protocols.specs.Place.{Lists, lists, Receiver, miner, controller, list, silence, block}
 use Rattle.protocols.specs.Counts.{due}
 use Rattle.protocols.specs.Outcome.{message, sent, Delivery, delivered}
 use Rattle.protocols.proofs.Claims.{claims}
+use Rattle.protocols.proofs.Laws.Messages.{sent-messages}
 use Rattle.machine.specs.declared.code.Code.{Code}
 use Rattle.machine.specs.declared.code.Command.{Command}
 use Rattle.machine.specs.declared.judge.Verdict.{Verdict}
@@ -85,18 +87,20 @@ append-some (suc v) at s kind t kinds h = refl
 
 all-words : (p : Place) (w l : Lists) → ((r : Receiver) → due r (p .received) + length (list r w) ≤ length (list r l)) → ((r : Receiver) → length (list r w) ≤ 28)
     → deliveredAll (p .received) (sent w) l ≡ withWords l p w
-unfolding deliveredAll sent
+unfolding deliveredAll
 all-words p w l h g =
-    λ i. lists (tail-words (p .received .one) (w .one) (l .one) (h (miner one)) (g (miner one)) i)
+    ap (λ (s : Sent). deliveredAll (p .received) s l) (sent-messages w)
+    ∙ (λ i. lists (tail-words (p .received .one) (w .one) (l .one) (h (miner one)) (g (miner one)) i)
     (tail-words (p .received .two) (w .two) (l .two) (h (miner two)) (g (miner two)) i)
     (tail-words (p .received .three) (w .three) (l .three) (h (miner three)) (g (miner three)) i)
-    (tail-words (p .received .controller) (w .controller) (l .controller) (h controller) (g controller) i)
+    (tail-words (p .received .controller) (w .controller) (l .controller) (h controller) (g controller) i))
 
 all-nothing : (p : Place) (l : Lists) → deliveredAll (p .received) (sent silence) l ≡ l
-unfolding deliveredAll sent
+unfolding deliveredAll
 all-nothing p l =
-    λ i. lists (tail-nothing (p .received .one) (l .one) i) (tail-nothing (p .received .two) (l .two) i) (tail-nothing (p .received .three) (l .three) i)
-    (tail-nothing (p .received .controller) (l .controller) i)
+    ap (λ (s : Sent). deliveredAll (p .received) s l) (sent-messages silence)
+    ∙ (λ i. lists (tail-nothing (p .received .one) (l .one) i) (tail-nothing (p .received .two) (l .two) i) (tail-nothing (p .received .three) (l .three) i)
+    (tail-nothing (p .received .controller) (l .controller) i))
 
 -- ---- the command
 

@@ -34,6 +34,11 @@ unfolding append
 append-append x l r =
     cc (pushes-append (x .one) (l .one) (r .one), pushes-append (x .two) (l .two) (r .two), pushes-append (x .three) (l .three) (r .three), pushes-append (x .controller) (l .controller) (r .controller))
 
+-- each party's message holds the words for it
+pub sent-messages : (l : Lists) → sent l ≡ record { one = message (l .one); two = message (l .two); three = message (l .three); controller = message (l .controller) }
+unfolding sent
+sent-messages l = refl
+
 -- a protocol that has sent nothing before
 pub continued-nothing : (p : Place) (a : Answer Shares) → continued p (sent silence) a ≡ outcome p a
 continued-nothing p (done s l q) = rw append-sent
