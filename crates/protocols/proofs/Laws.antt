@@ -11,8 +11,10 @@ pub mod Shared
 pub mod Carry
 pub mod Fold
 pub mod WordForm
+pub mod Bounds
 pub mod RingCombine
-pub mod Counts
 pub mod BitsCombine
 pub mod Tables
 pub mod Blind
+pub mod Counts
+pub mod Worked

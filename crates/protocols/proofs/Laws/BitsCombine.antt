@@ -30,7 +30,7 @@ use Rattle.protocols.proofs.Laws.Shared.{xor-masked, xor-round-s, xor-r
 use Rattle.protocols.proofs.Laws.Carry.{carryP, carryS, carry-sum}
 use Rattle.protocols.proofs.Laws.Fold.{foldPlain, fold-ones}
 use Rattle.protocols.proofs.Laws.RingCombine.{sum-lt, sum-r, sum-is, ring-combines}
-use Rattle.protocols.proofs.Laws.Counts.{compared-words, low-lt, s₂₃-lt, s₃₂-lt}
+use Rattle.protocols.proofs.Laws.Bounds.{compared-words, low-lt, s₂₃-lt, s₃₂-lt}
 
 -- ---- over plain words
 

@@ -4,7 +4,7 @@ use mathlib.Core.List.{List, [], _∷_, _++_}
 use Prim.Native.Nat.{ℕ, zero, suc, _+_, _≤_, _<_}
 use native.Mathlib.Omega.{arith}
 use lib.ListN.{length, take, drop, getD, length-append, length-take, length-drop, take-append-drop}
-use lib.Seq.{take-at, drop-at, length-take-le}
+use lib.Seq.{take-at, drop-at, drop-drop, length-take-le}
 use Rattle.protocols.specs.declared.place.Party.{Party}
 use Rattle.protocols.specs.declared.place.Party.the-variants.{Provider, One, Two, Three}
 use Rattle.protocols.specs.declared.place.Drawn.{Drawn}
@@ -111,6 +111,20 @@ module _ (m : ℕ) where
   block-contents d p t b h One = next-words (t .one) (p .drawn .one) (d .one) (b One) (h One)
   block-contents d p t b h Two = next-words (t .two) (p .drawn .two) (d .two) (b Two) (h Two)
   block-contents d p t b h Three = next-words (t .three) (p .drawn .three) (d .three) (b Three) (h Three)
+
+-- a block is what is cut off the words that are left, and the rest is left after it
+pub block-cut : (d : Drawn) (p : Place) (t : Tapes) → block d p t ≡ cut d (rest (p .drawn) t)
+unfolding block
+block-cut d p t = refl
+
+pub rest-rest : (d n : Drawn) (t : Tapes) → rest d (rest n t) ≡ rest (plus n d) t
+rest-rest d n t = tapes-ext (rest d (rest n t)) (rest (plus n d) t) parts
+  where
+    parts : (p : Party) → tape p (rest d (rest n t)) ≡ tape p (rest (plus n d) t)
+    parts Provider = drop-drop (d .provider) (n .provider) (t .provider)
+    parts One = drop-drop (d .one) (n .one) (t .one)
+    parts Two = drop-drop (d .two) (n .two) (t .two)
+    parts Three = drop-drop (d .three) (n .three) (t .three)
 
 -- a block is told by the words drawn before it
 pub block-same : (d : Drawn) (p q : Place) (t : Tapes) → p .drawn ≡ q .drawn → block d p t ≡ block d q t

@@ -1,40 +1,40 @@
 -- What each protocol draws, delivers and makes: laws of Counted, and document 01's table.
 use mathlib.Core.Path.{_≡_, refl, ap₂, subst₂, _∙_}
 use mathlib.Core.List.{[], _∷_}
-use Prim.Native.Nat.{ℕ, zero, suc, _+_, _-_, _*_, _^_, _≤_, _<_}
-use native.Mathlib.Nat.{mod-lt, zero-lt-suc, lt-of-le-of-lt}
+use Prim.Native.Nat.{ℕ, zero, suc, _+_, _-_, _*_, _≤_, _<_}
+use native.Mathlib.Nat.{lt-of-le-of-lt}
 use native.Mathlib.Omega.{arith}
 use lib.ListN.{length, length-append}
 use lib.Pow.{pow-pos, pow-mono}
 use lib.Bits.{bitXor, xor-lt, and-le-l}
-use Rattle.protocols.specs.declared.place.Party.the-variants.{Provider, One, Two, Three}
+use Rattle.protocols.specs.declared.place.Party.the-variants.{Provider, One}
 use Rattle.protocols.specs.declared.place.Drawn.{Drawn}
 use Rattle.protocols.specs.declared.place.Received.{Received}
 use Rattle.protocols.specs.declared.shares.Shares.{Shares}
 use Rattle.protocols.specs.declared.bits.Dealt.{Dealt}
 use Rattle.protocols.specs.declared.bits.Held.{Held}
 use Rattle.protocols.specs.declared.equal.Folding.{Folding}
-use Rattle.protocols.specs.Word.{width, modulus, add, sub, mul, bitAt, low, up, choose}
-use Rattle.protocols.specs.Shares.{Miner, one, two, three, prev, at, each, shares, AreWords, Operands}
+use Rattle.protocols.specs.Word.{width, modulus, add, sub, bitAt, up}
+use Rattle.protocols.specs.Shares.{one, two, three, prev, at, AreWords}
 use Rattle.protocols.specs.Place.{Tapes, word, words, counts, plus, cut, rest, silence, _followed-by_}
 use Rattle.protocols.specs.Place.{Lists, Receiver, miner, controller, list, to-next, to-two-three, to-each, to-controller}
 use Rattle.protocols.specs.Protocol.{Protocol, locally, _then_}
 use Rattle.protocols.specs.Store.{store}
 use Rattle.protocols.specs.Local.{difference}
-use Rattle.protocols.specs.Reshare.{fresh, reshare}
-use Rattle.protocols.specs.Multiply.{product, masked-u, masked-v, multiply}
+use Rattle.protocols.specs.Reshare.{reshare}
+use Rattle.protocols.specs.Multiply.{masked-u, masked-v, multiply}
 use Rattle.protocols.specs.Masked.{masked}
-use Rattle.protocols.specs.Bit.{bitsAt, b, m₁₂, b₁₂, m₁₃, b₁₃, s₂₃, s₃₂, bit}
+use Rattle.protocols.specs.Bit.{bitsAt, b, m₁₂, m₁₃, s₂₃, s₃₂, bit}
 use Rattle.protocols.specs.Bits.{r₃, R₃, v₂, v₃, dealt, deal, exchange, round, rounds, joined, bits}
-use Rattle.protocols.specs.Equal.{compared, compare, begin, fold, folds, equal}
+use Rattle.protocols.specs.Equal.{compare, begin, fold, folds, equal}
 use Rattle.protocols.specs.Open.{opening}
 use Rattle.protocols.specs.Below.{below}
 use Rattle.protocols.specs.Contents.{Words, Contents}
 use Rattle.protocols.specs.Counts.{received, plusReceived, due, Counted}
 use Rattle.protocols.specs.Claims.{OperandsAreWords, Table, TableAt32}
 use Rattle.protocols.proofs.Laws.Ring.{add-lt, sub-lt, mul-lt}
-use Rattle.protocols.proofs.Laws.Bitwise.{bit-lt}
 use Rattle.protocols.proofs.Laws.Shared.{roundS-lt, roundP-lt, foldShare-lt, up-lt}
+use Rattle.protocols.proofs.Laws.Bounds.{words-of, words-three, drawn-words, fresh-words, difference-words, compared-words, product-words, choose-word, low-lt, b₁₃-lt, s₂₃-lt, s₃₂-lt, masked-words}
 use Rattle.protocols.proofs.Laws.Blocks.{words-append, word-lt, contents-cut, contents-rest}
 
 -- ---- counts
@@ -120,22 +120,6 @@ module _ {m : ℕ} where
   controller-words h (miner three) = no-words
   controller-words h controller = record { long = refl; below = (h one, (h two, (h three, tt))) }
 
-  -- ---- shares that are words
-
-  words-of : {f : Miner → ℕ} → ((i : Miner) → f i < m) → AreWords m (each f)
-  words-of h one = h one
-  words-of h two = h two
-  words-of h three = h three
-
-  words-three : {a b c : ℕ} → a < m → b < m → c < m → AreWords m (shares a b c)
-  words-three f g h one = f
-  words-three f g h two = g
-  words-three f g h three = h
-
-  -- words k of the miners' tapes
-  drawn-words : {n : ℕ} {t : Tapes} (k : ℕ) → k < n → Contents m (counts 0 n n n) t → AreWords m (words t k)
-  drawn-words {t = t} k l h = words-three (word-lt (t .one) k (h One) l) (word-lt (t .two) k (h Two) l) (word-lt (t .three) k (h Three) l)
-
 -- ---- the laws of Counted
 
 module _ {m : ℕ} {S T : Type 0} {Good : S → Type 0} {Made : T → Type 0} where
@@ -165,18 +149,6 @@ module _ {m : ℕ} {S T : Type 0} {Good : S → Type 0} {Made : T → Type 0} wh
 -- ---- the ring protocols
 
 module _ (m : ℕ) (pos : 0 < m) where
-  fresh-words : (s r : Shares) → AreWords m (fresh m s r)
-  fresh-words s r = words-of (λ i. sub-lt m pos (add m (at i s) (at i r)) (at (prev i) r))
-
-  pub difference-words : (x : Operands) → AreWords m (difference m x)
-  difference-words x = words-of (λ i. sub-lt m pos (at i (x .u)) (at i (x .v)))
-
-  pub compared-words : (x : Operands) (t : Tapes) → AreWords m (compared m x t)
-  compared-words x t = words-three (omega arith) (add-lt m pos _ _) (sub-lt m pos _ _)
-
-  product-words : (u v : Shares) → AreWords m (product m u v)
-  product-words u v = words-of (λ i. add-lt m pos (add m (mul m (at i u) (at i v)) (mul m (at i u) (at (prev i) v))) (mul m (at (prev i) u) (at i v)))
-
   store-counts : Counted m (store m) (λ v. v < m) (AreWords m) (counts 2 0 0 0) (received 1 1 1 0)
   unfolding store
   store-counts = record { drawn = refl; long = λ v b. own-long _; delivered = λ v g b h. each-words (dealt-words v b h); made = λ v g b h. dealt-words v b h }
@@ -191,7 +163,7 @@ module _ (m : ℕ) (pos : 0 < m) where
     drawn = refl;
     long = λ s b. own-long _;
     delivered = λ s g b h. next-words (drawn-words 0 (omega arith) h);
-    made = λ s g b h. fresh-words s (words b 0);
+    made = λ s g b h. fresh-words m pos s (words b 0);
   }
 
   opening-counts : Counted m (opening m) (AreWords m) (AreWords m) (counts 0 1 1 1) (received 1 1 1 3)
@@ -200,8 +172,8 @@ module _ (m : ℕ) (pos : 0 < m) where
     drawn = refl;
     long = λ s b. own-long _;
     delivered = λ s g b h.
-        followed-by-words (next-words (drawn-words 0 (omega arith) h)) (controller-words (fresh-words s (words b 0)));
-    made = λ s g b h. fresh-words s (words b 0);
+        followed-by-words (next-words (drawn-words 0 (omega arith) h)) (controller-words (fresh-words m pos s (words b 0)));
+    made = λ s g b h. fresh-words m pos s (words b 0);
   }
 
   multiply-counts : Counted m (multiply m) (OperandsAreWords m) (AreWords m) (counts 0 2 2 2) (received 4 4 4 0)
@@ -212,28 +184,11 @@ module _ (m : ℕ) (pos : 0 < m) where
     delivered = λ x g b h.
         followed-by-words (next-words (drawn-words 0 (omega arith) h))
         (followed-by-words (next-words (drawn-words 1 (omega arith) h))
-        (followed-by-words (next-words (fresh-words (x .u) (words b 0))) (next-words (fresh-words (x .v) (words b 1)))));
-    made = λ x g b h. product-words (masked-u m x b) (masked-v m x b);
+        (followed-by-words (next-words (fresh-words m pos (x .u) (words b 0))) (next-words (fresh-words m pos (x .v) (words b 1)))));
+    made = λ x g b h. product-words m pos (masked-u m x b) (masked-v m x b);
   }
 
 -- ---- Bit
-
-choose-word : {m x y : ℕ} (b : ℕ) → x < m → y < m → choose b x y < m
-choose-word zero g h = g
-choose-word (suc b) g h = h
-
-pub low-lt : (x : ℕ) → low x < 2
-low-lt x = mod-lt x (zero-lt-suc 1)
-
-b₁₃-lt : (t : Tapes) → b₁₃ t < 2
-b₁₃-lt t = xor-lt 1 (b t) (b₁₂ t) (low-lt (word t one 0)) (low-lt (word t one 2))
-
-module _ (j : ℕ) (u : Shares) (t : Tapes) where
-  pub s₂₃-lt : s₂₃ (bitsAt j u) t < 2
-  s₂₃-lt = xor-lt 1 (b₁₂ t) (bitAt (u .two) j) (low-lt (word t one 2)) (bit-lt (u .two) j)
-
-  pub s₃₂-lt : s₃₂ (bitsAt j u) t < 2
-  s₃₂-lt = xor-lt 1 (b₁₃ t) (bitAt (u .three) j) (b₁₃-lt t) (bit-lt (u .three) j)
 
 module _ (m : ℕ) (two-le : 2 ≤ m) where
   bit-counts : (j : ℕ) → Counted m (bit m j) (AreWords m) (AreWords m) (counts 0 3 0 0) (received 0 3 3 0)
@@ -281,10 +236,6 @@ pub record HeldWords (m : ℕ) (h : Held) : Type 0 where
 pub record FoldingWords (m : ℕ) (h : Folding) : Type 0 where
   pub p : AreWords m (h .p)
   pub q : AreWords m (h .q)
-
-pub masked-words : (w : ℕ) {p q : Shares} → AreWords (2 ^ w) p → AreWords (2 ^ w) q → AreWords (2 ^ w) (masked p q)
-masked-words w {p} {q} hp hq =
-    words-of (λ i. xor-lt w (bitXor (at i p) (at i q)) (at (prev i) q) (xor-lt w (at i p) (at i q) (hp i) (hq i)) (hq (prev i)))
 
 module _ (n : ℕ) where
   abbrev m : ℕ

@@ -31,46 +31,50 @@ use Rattle.protocols.specs.declared.shares.Shares.{Shares}
 use Rattle.protocols.specs.declared.draws.Each.the-variants as each
 use Rattle.protocols.specs.declared.draws.Pairs.the-variants as pairs
 use Rattle.protocols.specs.declared.draws.Triple.the-variants as triple
-use Rattle.protocols.specs.Word.{width, modulus, sub}
+use Rattle.protocols.specs.Word.{width, modulus}
 use Rattle.protocols.specs.Shares.{one, shares, Operands}
-use Rattle.protocols.specs.Place.{Tapes, tapes, tape, count, words, counts, moved, tapeNumber, drawCase, draw, block, _followed-by_, to-next, to-two-three, to-each, to-controller, silence}
+use Rattle.protocols.specs.Place.{Tapes, tapes, tape, count, words, counts, moved, tapeNumber, drawCase, draw, block, _followed-by_, to-next, to-two-three, silence}
 use Rattle.protocols.specs.Draws.{drawEach, drawPairs, drawTriple, drawDouble}
 use Rattle.protocols.specs.Protocol.{_then_, locally, Answer, done, spent, perform}
 use Rattle.protocols.specs.Store.{store}
-use Rattle.protocols.specs.Reshare.{fresh, reshare}
-use Rattle.protocols.specs.Multiply.{product, multiply}
+use Rattle.protocols.specs.Reshare.{reshare}
+use Rattle.protocols.specs.Multiply.{multiply}
 use Rattle.protocols.specs.Open.{opening}
 use Rattle.protocols.proofs.Laws.Draws.{after, after-each, after-pairs, after-triple, after-double, enough-true, enough-false, Agree, enough-agree, block-agree, block-first}
 use Rattle.protocols.proofs.Laws.Perform.{by-each, by-pairs, by-triple, by-double, and-then, preceded, perform-then, perform-locally, perform-agree, then-spent, then-done, locally-then, continued-after, followed-by-silence, Performed, rounds-spent, round-done, round-spent}
 
 -- ---- the ring protocols
 
-abbrev pub dealt : ℕ → ℕ → ℕ → ℕ → Shares
-dealt m v a b = shares a b (sub m (sub m v a) b)
+-- blocks of two words of the provider, of one word and of two words of each miner
+abbrev pub two-of-provider : ℕ → ℕ → Tapes
+two-of-provider x y = tapes (x ∷ y ∷ []) [] [] []
+
+abbrev pub one-word : Shares → Tapes
+one-word x = tapes [] (x .one ∷ []) (x .two ∷ []) (x .three ∷ [])
+
+abbrev pub two-words : Shares → Shares → Tapes
+two-words x y = tapes [] (x .one ∷ y .one ∷ []) (x .two ∷ y .two ∷ []) (x .three ∷ y .three ∷ [])
 
 module _ (m : ℕ) (p : Place) (t : Tapes) where
-  pub store-performs : (v : ℕ) → perform (store m) v p t ≡ after-double (drawDouble p t) (λ a b q. done (dealt m v a b) (to-each (dealt m v a b)) q) spent
+  pub store-performs : (v : ℕ) → perform (store m) v p t
+      ≡ after-double (drawDouble p t) (λ x y q. done (store m .result v (two-of-provider x y)) (store m .received v (two-of-provider x y)) q) spent
   unfolding store
-  store-performs v = by-double (λ v a b. dealt m v a b) (λ v a b. to-each (dealt m v a b)) v p t
+  store-performs v = by-double (λ v x y. store m .result v (two-of-provider x y)) (λ v x y. store m .received v (two-of-provider x y)) v p t
 
-  pub reshare-performs : (s : Shares) → perform (reshare m) s p t ≡ after-each (drawEach p t) (λ r q. done (fresh m s r) (to-next r) q) spent
+  pub reshare-performs : (s : Shares) → perform (reshare m) s p t
+      ≡ after-each (drawEach p t) (λ r q. done (reshare m .result s (one-word r)) (reshare m .received s (one-word r)) q) spent
   unfolding reshare
-  reshare-performs s = by-each (fresh m) (λ s r. to-next r) s p t
+  reshare-performs s = by-each (λ s r. reshare m .result s (one-word r)) (λ s r. reshare m .received s (one-word r)) s p t
 
   pub opening-performs : (s : Shares) → perform (opening m) s p t
-      ≡ after-each (drawEach p t) (λ r q. done (fresh m s r) (to-next r followed-by to-controller (fresh m s r)) q) spent
+      ≡ after-each (drawEach p t) (λ r q. done (opening m .result s (one-word r)) (opening m .received s (one-word r)) q) spent
   unfolding opening
-  opening-performs s = by-each (fresh m) (λ s r. to-next r followed-by to-controller (fresh m s r)) s p t
+  opening-performs s = by-each (λ s r. opening m .result s (one-word r)) (λ s r. opening m .received s (one-word r)) s p t
 
   pub multiply-performs : (x : Operands) → perform (multiply m) x p t
-      ≡ after-pairs (drawPairs p t)
-      (λ r s q. done (product m (fresh m (x .u) r) (fresh m (x .v) s))
-      (to-next r followed-by to-next s followed-by to-next (fresh m (x .u) r) followed-by to-next (fresh m (x .v) s)) q)
-      spent
+      ≡ after-pairs (drawPairs p t) (λ r s q. done (multiply m .result x (two-words r s)) (multiply m .received x (two-words r s)) q) spent
   unfolding multiply
-  multiply-performs x =
-      by-pairs (λ x r s. product m (fresh m (x .u) r) (fresh m (x .v) s))
-      (λ x r s. to-next r followed-by to-next s followed-by to-next (fresh m (x .u) r) followed-by to-next (fresh m (x .v) s)) x p t
+  multiply-performs x = by-pairs (λ x r s. multiply m .result x (two-words r s)) (λ x r s. multiply m .received x (two-words r s)) x p t
 
 -- ---- the parts of Bits, Equal and Below
 

@@ -1,6 +1,6 @@
 -- Words shared by exclusive or: shares of a round, of a fold and of a join, and what they combine to.
 use mathlib.Core.Path.{_≡_, refl, sym, ap, ap₂, _∙_, fun-ext}
-use Prim.Native.Nat.{ℕ, zero, suc, _+_, _*_, _%_, _^_, _<_}
+use Prim.Native.Nat.{ℕ, zero, suc, _*_, _%_, _^_, _<_}
 use native.Mathlib.Nat.{add-zero, mod-lt, lt-of-le-of-lt}
 use lib.Pow.{pow-pos}
 use lib.Bits.{bitXor, bitAnd, xor-lt, and-le-r, xor-self, xor-zero-r, xor-mod, xor-block, and-zero-r}

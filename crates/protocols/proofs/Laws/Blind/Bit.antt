@@ -17,7 +17,7 @@ use Rattle.protocols.specs.Blind.{Observer, Sees, SameShares, Blind}
 use Rattle.protocols.proofs.Laws.Ring.{sub-lt, sub-sub}
 use Rattle.protocols.proofs.Laws.Bitwise.{bit-lt, lt-pow, xor-assoc, xor-cancel-l}
 use Rattle.protocols.proofs.Laws.Blocks.{word-lt}
-use Rattle.protocols.proofs.Laws.Counts.{low-lt}
+use Rattle.protocols.proofs.Laws.Bounds.{low-lt}
 use Rattle.protocols.proofs.Laws.Blind.Miner.{SameAt}
 use Rattle.protocols.proofs.Laws.Blind.Compose.{BlindFor, unmasked-for, blind-silent}
 use Rattle.protocols.proofs.Laws.Blind.Cover.{change, Undone, changed-for, listed-getD}

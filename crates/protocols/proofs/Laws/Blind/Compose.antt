@@ -5,13 +5,22 @@ use Prim.Native.Nat.{ℕ}
 use Rattle.protocols.specs.declared.place.Party.{Party}
 use Rattle.protocols.specs.declared.place.Party.the-variants.{Provider, One, Two, Three}
 use Rattle.protocols.specs.Shares.{Miner, one, two, three}
-use Rattle.protocols.specs.Place.{Tapes, tape, owner, cut, rest, join, Lists, Receiver, miner, controller, list, _followed-by_}
+use Rattle.protocols.specs.Place.{Tapes, tape, owner, plus, cut, rest, join, Lists, Receiver, miner, controller, list, _followed-by_}
 use Rattle.protocols.specs.Protocol.{Protocol, locally, _then_}
 use Rattle.protocols.specs.Contents.{Contents}
 use Rattle.protocols.specs.Blind.{Observer, watching, controlling, both, Sees, Holds, Blind}
 use Rattle.protocols.proofs.Laws.Blocks.{contents-cut, contents-rest, contents-join, join-cut-rest, cut-join, rest-join}
 
 -- ---- one protocol after another
+
+module _ {S T Z : Type 0} (f : Protocol S T) (g : Protocol T Z) where
+  pub then-draws : (f then g) .draws ≡ plus (f .draws) (g .draws)
+  unfolding _then_
+  then-draws = refl
+
+  pub then-result : (s : S) (b : Tapes) → (f then g) .result s b ≡ g .result (f .result s (cut (f .draws) b)) (rest (f .draws) b)
+  unfolding _then_
+  then-result s b = refl
 
 tape-join : (p : Party) (c d : Tapes) → tape p (join c d) ≡ tape p c ++ tape p d
 tape-join Provider c d = refl

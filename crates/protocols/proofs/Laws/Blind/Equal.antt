@@ -17,7 +17,7 @@ use Rattle.protocols.specs.Blind.{Observer, Sees, SameShares, SameOperan
 use Rattle.protocols.proofs.Laws.Ring.{sub-lt, sub-sub}
 use Rattle.protocols.proofs.Laws.Shared.{foldShare-lt}
 use Rattle.protocols.proofs.Laws.Blocks.{word-lt}
-use Rattle.protocols.proofs.Laws.Counts.{compared-words}
+use Rattle.protocols.proofs.Laws.Bounds.{compared-words}
 use Rattle.protocols.proofs.Laws.Blind.Compose.{BlindFor, Seen, blind-then, blind-then-any, unmasked-for, blind-locally, blind-silent}
 use Rattle.protocols.proofs.Laws.Blind.Cover.{Undone, changed-for, listed-getD, Known, covered-for}
 use Rattle.protocols.proofs.Laws.Blind.Miner.{SameAt, near-same, next-same, next-followed}

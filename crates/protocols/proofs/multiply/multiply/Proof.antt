@@ -1,6 +1,7 @@
 -- `protocols::multiply::multiply` meets its contract.
 use Rattle.protocols.proofs.Laws.Messages.{append-sent}
 use mathlib.Core.Path.{sym, _∙_}
+use Rattle.protocols.specs.Multiply.{multiply}
 use Rattle.protocols.proofs.Laws.Lent.{multiply-performs}
 use borrow.Author.Needs.{needs}
 use Rattle.protocols.proofs.multiply.multiply.Statement.{statement}
@@ -46,6 +47,7 @@ to-next-requires-4 : tie.Need-to-next-requires-4
 to-next-requires-4 c κs = tt
 
 returns-2 : tie.Need-returns-2
+unfolding multiply
 returns-2 c = rw (multiply-performs, sym ((c .before .before .before .before .before .before .before .before .before .before .before .draw-pairs) .ensures) ∙ (c .before .before .before .before .before .before .before .before .before .r) .given .1, (c .to-next4) .ensures, (c .before .to-next3) .ensures, (c .before .before .to-next2) .ensures, (c .before .before .before .to-next) .ensures, (c .before .before .before .before .new) .ensures, (c .before .before .before .before .before .product) .ensures, (c .before .before .before .before .before .before .before .fresh) .ensures, (c .before .before .before .before .before .before .fresh2) .ensures) (simp append-sent)
 
 pub multiply-spec : {M : Type 1} → statement M

@@ -1,6 +1,7 @@
 -- `protocols::open::open` meets its contract.
 use Rattle.protocols.proofs.Laws.Messages.{append-sent}
 use mathlib.Core.Path.{sym, _∙_}
+use Rattle.protocols.specs.Open.{opening}
 use Rattle.protocols.proofs.Laws.Lent.{opening-performs}
 use borrow.Author.Needs.{needs}
 use Rattle.protocols.proofs.open.open.Statement.{statement}
@@ -34,6 +35,7 @@ to-controller-requires : tie.Need-to-controller-requires
 to-controller-requires c κs = tt
 
 returns-2 : tie.Need-returns-2
+unfolding opening
 returns-2 c = rw (opening-performs, sym ((c .before .before .before .before .before .before .before .draw-each) .ensures) ∙ (c .before .before .before .before .before .r) .given .1, (c .to-controller) .ensures, (c .before .to-next) .ensures, (c .before .before .new) .ensures, (c .before .before .before .fresh) .ensures) (simp append-sent)
 
 pub open-spec : {M : Type 1} → statement M

@@ -1,6 +1,7 @@
 -- `protocols::reshare::reshare` meets its contract.
 use Rattle.protocols.proofs.Laws.Messages.{append-sent}
 use mathlib.Core.Path.{sym, _∙_}
+use Rattle.protocols.specs.Reshare.{reshare}
 use Rattle.protocols.proofs.Laws.Lent.{reshare-performs}
 use borrow.Author.Needs.{needs}
 use Rattle.protocols.proofs.reshare.reshare.Statement.{statement}
@@ -31,6 +32,7 @@ to-next-requires : tie.Need-to-next-requires
 to-next-requires c κs = tt
 
 returns-2 : tie.Need-returns-2
+unfolding reshare
 returns-2 c = rw (reshare-performs, sym ((c .before .before .before .before .before .before .draw-each) .ensures) ∙ (c .before .before .before .before .r) .given .1, (c .to-next) .ensures, (c .before .new) .ensures, (c .before .before .fresh) .ensures) (simp append-sent)
 
 pub reshare-spec : {M : Type 1} → statement M

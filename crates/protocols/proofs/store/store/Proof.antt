@@ -1,6 +1,7 @@
 -- `protocols::store::store` meets its contract.
 use Rattle.protocols.proofs.Laws.Messages.{append-sent}
 use mathlib.Core.Path.{sym, _∙_}
+use Rattle.protocols.specs.Store.{store}
 use Rattle.protocols.proofs.Laws.Lent.{store-performs}
 use borrow.Author.Needs.{needs}
 use Rattle.protocols.proofs.store.store.Statement.{statement}
@@ -34,6 +35,7 @@ to-each-requires : tie.Need-to-each-requires
 to-each-requires c κs = tt
 
 returns-2 : tie.Need-returns-2
+unfolding store
 returns-2 c = rw (store-performs, sym ((c .before .before .before .before .before .before .before .draw-double) .ensures) ∙ (c .before .before .before .before .before .s1) .given .1, (c .to-each) .ensures, (c .before .new) .ensures, (c .before .before .sub2) .ensures, (c .before .before .before .sub) .ensures) (simp append-sent)
 
 pub store-spec : {M : Type 1} → statement M
