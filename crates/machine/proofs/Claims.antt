@@ -1,9 +1,14 @@
 -- The claims of specs/Claims.antt, proved.
 use mathlib.Core.Path.{refl}
+use Rattle.protocols.proofs.Claims.{claims as protocol-claims}
 use Rattle.machine.specs.Claims.{Claims, TableAt32}
 use Rattle.machine.proofs.Laws.Refusals.{entry-1}
 use Rattle.machine.proofs.Laws.Agree.{entry-2}
 use Rattle.machine.proofs.Laws.RunAgree.{throughout, run-agrees}
+use Rattle.machine.proofs.Laws.ToRefusal.{to-refusal}
+use Rattle.machine.proofs.Laws.Blind.Entry.{entry-3}
+use Rattle.machine.proofs.Laws.Blind.Refusal.{entry-3-to-refusal}
+use Rattle.machine.proofs.Laws.Blind.Records.{pairings, miner-records, controller-records}
 use Rattle.machine.proofs.Laws.Steps.{never-spent}
 
 -- by computation
@@ -30,5 +35,14 @@ claims = record {
   entry-2 = entry-2;
   entry-2-throughout = throughout;
   entry-2-run = run-agrees;
+  to-refusal = to-refusal;
+  entry-3 = entry-3;
+  entry-3-at-32 = entry-3 5;
+  entry-3-to-refusal = entry-3-to-refusal;
+  entry-3-to-refusal-at-32 = entry-3-to-refusal 5;
+  pairings = pairings;
+  miner-records = miner-records;
+  controller-records = controller-records;
   never-spent = never-spent;
+  worked = protocol-claims .worked;
 }

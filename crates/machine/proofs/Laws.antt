@@ -9,5 +9,8 @@ pub mod Entries
 pub mod Judge
 pub mod Agree
 pub mod RunAgree
+pub mod ToRefusal
+pub mod OpenedWords
 pub mod Play
 pub mod Effect
+pub mod Blind

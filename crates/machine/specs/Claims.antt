@@ -1,32 +1,38 @@
 -- What this crate claims of the command machine, as types; proofs/Claims.antt proves each.
 -- n stands for words of 2 ^ n bits; the code's contract cites the same definitions at n = 5.
-use Prim.Native.Nat.{ℕ, _+_, _≤_, _<_}
+use Prim.Native.Nat.{ℕ, suc, _+_, _^_, _≤_, _<_}
 use mathlib.Core.Path.{_≡_}
 use mathlib.Core.Logic.{_↔_}
 use mathlib.Core.List.{List, [], _∷_, _++_, map}
-use lib.ListN.{length, getD, take, drop}
+use lib.ListN.{length, getD, take, drop, replicate}
+use Rattle.protocols.specs.declared.place.Drawn.{Drawn}
 use Rattle.protocols.specs.declared.place.Place.{Place}
 use Rattle.protocols.specs.declared.shares.Shares.{Shares}
 use Rattle.protocols.specs.Word.{modulus}
 use Rattle.protocols.specs.Shares.{Miner, sumOf}
-use Rattle.protocols.specs.Place.{counts, Lists, Receiver, list, inOrder, advance, block}
+use Rattle.protocols.specs.Place.{Tapes, tape, owner, counts, Lists, Receiver, list, inOrder, advance, block}
 use Rattle.protocols.specs.Protocol.{done, perform}
+use Rattle.protocols.specs.Contents.{Below as AllBelow, Contents}
 use Rattle.protocols.specs.Counts.{received, due}
+use Rattle.protocols.specs.Worked.{Worked}
 use Rattle.machine.specs.declared.code.Command.{Command}
 use Rattle.machine.specs.declared.code.Code.{Code}
 use Rattle.machine.specs.declared.code.Code.the-variants.{Store, Add, Subtract, AddConstant, TimesConstant, Multiply, Reshare, Bits, Bit, Equal, Open, Below}
 use Rattle.machine.specs.declared.code.Lookup.the-variants.{Found}
 use Rattle.machine.specs.declared.row.Row.{Row}
 use Rattle.machine.specs.declared.row.Use.the-variants.{Unused, Handle, Word, Position}
+use Rattle.machine.specs.declared.lent.Sizes.{Sizes}
 use Rattle.machine.specs.declared.judge.Verdict.the-variants.{Accepted}
 use Rattle.machine.specs.Table.{find, line, row}
-use Rattle.machine.specs.Lent.{Lent, table, sizes, entry, sharesAt, Filled, AreWords}
+use Rattle.machine.specs.Lent.{Tables, Lent, lent, table, lengths, sizes, entry, sharesAt, Filled, AreWords}
 use Rattle.machine.specs.Verdict.{number, verdict}
 use Rattle.machine.specs.Steps.{protocol}
 use Rattle.machine.specs.Command.{Outcome, answer, outcome, given, command}
-use Rattle.machine.specs.Registers.{named, judge, step, leads}
+use Rattle.machine.specs.Registers.{registers, named, judge, step, leads, leadsToRefusal}
 use Rattle.machine.specs.Start.{combined, start}
-use Rattle.machine.specs.Run.{run, reply, openedWords, registersAfter, replies}
+use Rattle.machine.specs.Run.{Ran, run, runToRefusal, numbers, empty, reply, openedWords, registersAfter, replies}
+use Rattle.machine.specs.Records.{minerRecord, controllerRecord, SameToMiner, SameToController}
+use Rattle.machine.specs.Pairing.{Pairing, OneToOne}
 use Rattle.machine.specs.Refusals.{Applies, Lowest}
 
 -- ---- the table of 01 at 32 bits, line by line
@@ -116,7 +122,7 @@ module _ (n : ℕ) (c : Command) (p : Place) (l : Lent) where
     pub inputs-kept : after .lent .inputs ≡ l .inputs
     pub tapes-kept : after .lent .tapes ≡ l .tapes
     pub sizes-kept : sizes (after .lent) ≡ sizes l
-    pub words : AreWords (modulus n) (after .lent)
+    pub words : AreWords (modulus n) (after .answer .place) (after .lent)
 
 -- ---- 3. Entry 2 over every list of commands, from every place.
 
@@ -131,7 +137,41 @@ pub record RunAgrees (n : ℕ) (cs : List Command) (p : Place) (l : Lent) : Type
   pub same-registers : start n (run n cs p l .place) (run n cs p l .lent) ≡ registersAfter n cs (sizes l) (l .inputs) (start n p l)
   pub same-opened : openedWords cs (run n cs p l .answers) ≡ leads n cs (sizes l) (l .inputs) (start n p l)
 
--- ---- 4. The protocol of an accepted command is never spent, wherever the other counts of the place record stand.
+-- a run that stops at the first refused command
+pub data ToRefusal (n : ℕ) (cs : List Command) (p : Place) (l : Lent) : Type 0 where
+  -- none is refused: it is the whole run
+  all-done : runToRefusal n cs p l ≡ run n cs p l → numbers (run n cs p l) ≡ replicate (length cs) 0 → ToRefusal n cs p l
+  -- command k, counted from 0, is the first refused one, with the number r: it is the run up to that one
+  stopped : (k r : ℕ) → 0 < r → k < length cs → runToRefusal n cs p l ≡ run n (take (suc k) cs) p l
+      → numbers (runToRefusal n cs p l) ≡ replicate k 0 ++ (r ∷ []) → ToRefusal n cs p l
+
+-- ---- 4. Entry 3: every record is blind to the inputs.
+
+-- For two input lists x and y, on tapes of the lengths d: `ran x t` is the run on the inputs x and the tapes t, `leading x` the opened
+-- words that x leads to.
+pub record BlindRuns (m : ℕ) (d : Drawn) (ran : List ℕ → Tapes → Ran) (leading : List ℕ → List ℕ) (x y : List ℕ) : Type 0 where
+  -- whatever a miner's own tape holds, the other three pair off so that paired runs give it the same record
+  pub miner : (i : Miner) (own : List ℕ)
+      → Pairing (λ t. Contents m d t × (tape (owner i) t ≡ own)) (λ t t′. minerRecord i (ran x t) ≡ minerRecord i (ran y t′))
+  -- all four pair off so that paired runs give the controller the same record, 'if both input lists lead to the same opened words'
+  pub controller : leading x ≡ leading y → Pairing (Contents m d) (λ t t′. controllerRecord (ran x t) ≡ controllerRecord (ran y t′))
+
+-- For every list of commands, whatever the lent tables s, kinds k and received lists r hold, for all lengths of lists and tapes, and
+-- any two equally long lists of words as inputs. `ran` is how commands are run on what is lent; `leading`, told the commands, all
+-- lent lengths and the inputs, gives the words that these lead to; m is the modulus.
+abbrev pub Blindness : ℕ → (List Command → Lent → Ran) → (List Command → Sizes → List ℕ → List ℕ) → Type 0
+Blindness m ran leading = (cs : List Command) (s : Tables) (k : List ℕ) (r : Lists) (d : Drawn) (x y : List ℕ)
+    → length x ≡ length y → AllBelow m x → AllBelow m y → BlindRuns m d (λ i t. ran cs (lent s k i t r)) (λ i. leading cs (lengths s k i d r) i) x y
+
+-- 01: 'A run in entry 3 starts from an empty place record, goes on past refusals'; the register machine starts from no registers
+abbrev pub Entry3 : ℕ → ℕ → Type 0
+Entry3 n m = Blindness m (λ cs. run n cs empty) (λ cs z i. leads n cs z i (registers [] empty))
+
+-- the same for runs that stop at the first refused command, as sessions do
+abbrev pub Entry3ToRefusal : ℕ → ℕ → Type 0
+Entry3ToRefusal n m = Blindness m (λ cs. runToRefusal n cs empty) (λ cs z i. leadsToRefusal n cs z i (registers [] empty))
+
+-- ---- 5. The protocol of an accepted command is never spent, wherever the other counts of the place record stand.
 
 abbrev pub NeverSpent : ℕ → Command → Place → Lent → Type 0
 NeverSpent n c p l = (x : Code) → verdict n c p (sizes l) (l .kinds) ≡ Accepted x → (q : Place) → q .drawn ≡ p .drawn
@@ -142,10 +182,21 @@ NeverSpent n c p l = (x : Code) → verdict n c p (sizes l) (l .kinds) ≡ Accep
 
 -- ---- all of it
 
-pub record Claims : Type 0 where
+pub record Claims : Type 1 where
   pub table-at-32 : TableAt32
   pub entry-1 : (n : ℕ) (c : Command) (p : Place) (l : Lent) → Entry1 n c p l
-  pub entry-2 : (n : ℕ) (c : Command) (p : Place) (l : Lent) → AreWords (modulus n) l → Entry2 n c p l
-  pub entry-2-throughout : (n : ℕ) (cs : List Command) (p : Place) (l : Lent) → AreWords (modulus n) l → Throughout n cs p l
-  pub entry-2-run : (n : ℕ) (cs : List Command) (p : Place) (l : Lent) → AreWords (modulus n) l → RunAgrees n cs p l
+  pub entry-2 : (n : ℕ) (c : Command) (p : Place) (l : Lent) → AreWords (modulus n) p l → Entry2 n c p l
+  pub entry-2-throughout : (n : ℕ) (cs : List Command) (p : Place) (l : Lent) → AreWords (modulus n) p l → Throughout n cs p l
+  pub entry-2-run : (n : ℕ) (cs : List Command) (p : Place) (l : Lent) → AreWords (modulus n) p l → RunAgrees n cs p l
+  pub to-refusal : (n : ℕ) (cs : List Command) (p : Place) (l : Lent) → ToRefusal n cs p l
+  pub entry-3 : (n : ℕ) → Entry3 n (modulus n)
+  pub entry-3-at-32 : Entry3 5 (2 ^ 32)
+  pub entry-3-to-refusal : (n : ℕ) → Entry3ToRefusal n (modulus n)
+  pub entry-3-to-refusal-at-32 : Entry3ToRefusal 5 (2 ^ 32)
+  -- what entry 3 speaks of: a pairing leaves none over, and equal records are equal in all that 01 names
+  pub pairings : {Ok : Tapes → Type 0} {Alike : Tapes → Tapes → Type 0} (P : Pairing Ok Alike) → OneToOne P
+  pub miner-records : (i : Miner) (r r′ : Ran) → minerRecord i r ≡ minerRecord i r′ → SameToMiner i r r′
+  pub controller-records : (r r′ : Ran) → controllerRecord r ≡ controllerRecord r′ → SameToController r r′
   pub never-spent : (n : ℕ) (c : Command) (p : Place) (l : Lent) → NeverSpent n c p l
+  -- M1 to M12
+  pub worked : Worked

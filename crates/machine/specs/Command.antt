@@ -37,8 +37,8 @@ abbrev pub given : Tables → List ℕ → Place → Command → Given
 given t inputs p c = record { input = getD inputs (p .inputs) 0; u = sharesAt t (c .a); v = sharesAt t (c .b) }
 
 -- 'the opened word (0 unless an open was accepted)': what the controller's three shares add up to
-abbrev pub opened : ℕ → Code → Shares → ℕ
-opened n x s = cond (opens n x) (sumOf (modulus n) s) 0
+abbrev pub opened : ℕ → Row → Shares → ℕ
+opened n x s = cond (opens x) (sumOf (modulus n) s) 0
 
 -- ---- 'writes the new handle's entries and the new received words and no other word'
 
@@ -69,7 +69,7 @@ accepted n x c p l =
     let f = protocol n x (c .b) in
     let g = given (l .tables) (l .inputs) p c in
     let b = block (f .draws) p (l .tapes) in
-    outcome (answer 0 (moved p (row n x)) (opened n x (f .result g b))) (written (row n x) p (f .result g b) (f .received g b) l)
+    outcome (answer 0 (moved p (row n x)) (opened n (row n x) (f .result g b))) (written (row n x) p (f .result g b) (f .received g b) l)
 
 -- 'moved on or untouched'
 abbrev pub decided : ℕ → Verdict → Command → Place → Lent → Outcome

@@ -3,15 +3,14 @@ use Prim.Native.Nat.{ℕ, _+_, _≤_, _<_, _^_}
 use mathlib.Core.Bool.{cond}
 use mathlib.Core.List.{List, _++_}
 use lib.ListN.{length, take, drop}
-use lib.Dec.{ltb, leb}
+use lib.Dec.{leb}
 use Rattle.protocols.specs.declared.place.Party.{Party}
 use Rattle.protocols.specs.declared.place.Place.{Place}
 use Rattle.protocols.specs.declared.place.Received.{Received}
 use Rattle.protocols.specs.declared.shares.Shares.{Shares}
 use Rattle.protocols.specs.declared.message.Message.{Message}
 use Rattle.protocols.specs.declared.message.Sent.{Sent}
-use Rattle.protocols.specs.Word.{modulus}
-use Rattle.protocols.specs.Shares.{shares, sumOf}
+use Rattle.protocols.specs.Shares.{shares}
 use Rattle.protocols.specs.Place.{Tapes, tape, Lists, lists, count, silence, block}
 use Rattle.protocols.specs.Counts.{plusReceived}
 use Rattle.protocols.specs.Outcome.{sent, delivered}
@@ -52,29 +51,26 @@ counted p x = record {
   received = plusReceived (p .received) (x .received);
 }
 
-abbrev pub openedBy : Row → Shares → ℕ
-openedBy x s = cond (ltb 0 (x .received .controller)) (sumOf (modulus 5) s) 0
-
 abbrev pub refused : ℕ → Place → Effect
 refused r p = record { number = r; place = p; opened = 0; values = 0; kind = 0; shares = shares 0 0 0; sent = sent silence }
 
-unfoldable pub accepted : ℕ → Code → Command → Place → Tables → List ℕ → Tapes → Effect
-accepted n x c p t inputs s =
-    let f = protocol n x (c .b) in
+unfoldable pub accepted : Code → Command → Place → Tables → List ℕ → Tapes → Effect
+accepted x c p t inputs s =
+    let f = protocol 5 x (c .b) in
     let g = given t inputs p c in
     let b = block (f .draws) p s in
     record {
       number = 0;
-      place = moved p (row n x);
-      opened = opened n x (f .result g b);
-      values = row n x .values;
-      kind = row n x .kind;
+      place = moved p (row 5 x);
+      opened = opened 5 (row 5 x) (f .result g b);
+      values = row 5 x .values;
+      kind = row 5 x .kind;
       shares = f .result g b;
       sent = sent (f .received g b);
     }
 
 abbrev pub computed : Verdict → Command → Place → Lent → Effect
-computed (Accepted x) c p l = accepted 5 x c p (l .tables) (l .inputs) (l .tapes)
+computed (Accepted x) c p l = accepted x c p (l .tables) (l .inputs) (l .tapes)
 computed (Refused r) c p l = refused r p
 
 unfoldable pub effect : Command → Place → Lent → Effect

@@ -1,7 +1,7 @@
 -- What is lent to a command. (01, 'Handles, tapes and places')
 use Prim.Native.Nat.{ℕ, _-_, _≤_}
 use mathlib.Core.List.{List}
-use lib.ListN.{length, getD}
+use lib.ListN.{length, getD, take}
 use Rattle.protocols.specs.declared.place.Drawn.{Drawn}
 use Rattle.protocols.specs.declared.place.Received.{Received}
 use Rattle.protocols.specs.declared.place.Party.{Party}
@@ -9,7 +9,7 @@ use Rattle.protocols.specs.declared.place.Place.{Place}
 use Rattle.protocols.specs.declared.shares.Shares.{Shares}
 use Rattle.protocols.specs.Shares.{Miner, one, two, three, shares}
 use Rattle.protocols.specs.Place.{Tapes, tape, counts, Lists, Receiver, list}
-use Rattle.protocols.specs.Counts.{received}
+use Rattle.protocols.specs.Counts.{received, due}
 use Rattle.protocols.specs.Contents.{Below}
 use Rattle.machine.specs.declared.lent.Sizes.{Sizes}
 
@@ -47,16 +47,20 @@ tapeLengths t = counts (length (t .provider)) (length (t .one)) (length (t .two)
 abbrev pub listLengths : Lists → Received
 listLengths r = received (length (r .one)) (length (r .two)) (length (r .three)) (length (r .controller))
 
-abbrev pub sizes : Lent → Sizes
-sizes l = record {
-  one = length (l .tables .one);
-  two = length (l .tables .two);
-  three = length (l .tables .three);
-  kinds = length (l .kinds);
-  inputs = length (l .inputs);
-  tapes = tapeLengths (l .tapes);
-  received = listLengths (l .received);
+-- the tapes' lengths are d
+abbrev pub lengths : Tables → List ℕ → List ℕ → Drawn → Lists → Sizes
+lengths t k i d r = record {
+  one = length (t .one);
+  two = length (t .two);
+  three = length (t .three);
+  kinds = length k;
+  inputs = length i;
+  tapes = d;
+  received = listLengths r;
 }
+
+abbrev pub sizes : Lent → Sizes
+sizes l = lengths (l .tables) (l .kinds) (l .inputs) (tapeLengths (l .tapes)) (l .received)
 
 -- ---- handles
 
@@ -71,11 +75,17 @@ sharesAt t h = shares (entry (t .one) h) (entry (t .two) h) (entry (t .three) h)
 abbrev pub Filled : Place → ℕ → Type 0
 Filled p h = (1 ≤ h) × (h ≤ p .handles)
 
--- ---- words
+-- ---- what is filled
 
--- every word that is lent is below m
-pub record AreWords (m : ℕ) (l : Lent) : Type 0 where
-  pub tables : (i : Miner) → Below m (table i (l .tables))
+abbrev pub filledShares : Place → Lent → Miner → List ℕ
+filledShares p l i = take (p .handles) (table i (l .tables))
+
+abbrev pub receivedWords : Place → Lent → Receiver → List ℕ
+receivedWords p l r = take (due r (p .received)) (list r (l .received))
+
+-- what is filled, and all that is read, is below m; what is not filled is any number
+pub record AreWords (m : ℕ) (p : Place) (l : Lent) : Type 0 where
+  pub shares : (i : Miner) → Below m (filledShares p l i)
   pub inputs : Below m (l .inputs)
   pub tapes : (i : Party) → Below m (tape i (l .tapes))
-  pub received : (r : Receiver) → Below m (list r (l .received))
+  pub received : (r : Receiver) → Below m (receivedWords p l r)

@@ -8,5 +8,7 @@ pub mod Effect
 pub mod Registers
 pub mod Start
 pub mod Run
+pub mod Records
+pub mod Pairing
 pub mod Refusals
 pub mod Claims

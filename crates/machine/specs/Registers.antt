@@ -13,7 +13,7 @@ use Rattle.machine.specs.declared.lent.Sizes.{Sizes}
 use Rattle.machine.specs.declared.judge.Verdict.{Verdict}
 use Rattle.machine.specs.declared.judge.Verdict.the-variants.{Accepted, Refused}
 use Rattle.machine.specs.Table.{row, opens, moved}
-use Rattle.machine.specs.Verdict.{verdict}
+use Rattle.machine.specs.Verdict.{number, verdict}
 
 -- 'registers (word, kind)'
 pub record Register : Type 0 where
@@ -72,10 +72,16 @@ step n c z inputs m = after n (judge n c z m) c inputs m
 
 -- the word of the register that an accepted open names
 abbrev pub shown : ℕ → Verdict → Command → Registers → List ℕ
-shown n (Accepted x) c m = cond (opens n x) (named (m .held) (c .a) .word ∷ []) []
+shown n (Accepted x) c m = cond (opens (row n x)) (named (m .held) (c .a) .word ∷ []) []
 shown n (Refused r) c m = []
 
 -- 'An input list leads to the words of the registers that accepted opens name, in order'
 unfoldable pub leads : ℕ → List Command → Sizes → List ℕ → Registers → List ℕ
 leads n [] z inputs m = []
 leads n (c ∷ l) z inputs m = shown n (judge n c z m) c m ++ leads n l z inputs (step n c z inputs m)
+
+-- the same for a machine that stops at the first refused command
+unfoldable pub leadsToRefusal : ℕ → List Command → Sizes → List ℕ → Registers → List ℕ
+leadsToRefusal n [] z inputs m = []
+leadsToRefusal n (c ∷ l) z inputs m =
+    shown n (judge n c z m) c m ++ cond (eqb (number (judge n c z m)) 0) (leadsToRefusal n l z inputs (step n c z inputs m)) []

@@ -1,15 +1,17 @@
--- A list of commands, past refusals, each given what the last one left. (01, 'Handles, tapes and places')
+-- A list of commands, each given what the last one left, past refusals or to the first one. (01, 'Handles, tapes and places')
 use Prim.Native.Nat.{ℕ}
 use mathlib.Core.Bool.{Bool, cond, _&&_}
-use mathlib.Core.List.{List, [], _∷_, _++_}
+use mathlib.Core.List.{List, [], _∷_, _++_, map}
 use lib.Dec.{eqb}
 use Rattle.protocols.specs.declared.place.Place.{Place}
+use Rattle.protocols.specs.Place.{counts}
+use Rattle.protocols.specs.Counts.{received}
 use Rattle.machine.specs.declared.code.Command.{Command}
 use Rattle.machine.specs.declared.answer.Answer.{Answer}
 use Rattle.machine.specs.declared.lent.Sizes.{Sizes}
 use Rattle.machine.specs.Lent.{Lent}
 use Rattle.machine.specs.Verdict.{number}
-use Rattle.machine.specs.Command.{command}
+use Rattle.machine.specs.Command.{Outcome, command}
 use Rattle.machine.specs.Registers.{Registers, judge, step}
 
 -- what is answered, in order, and what is left
@@ -18,12 +20,31 @@ pub record Ran : Type 0 where
   pub place : Place
   pub lent : Lent
 
+abbrev pub ran : List Answer → Place → Lent → Ran
+ran a p l = record { answers = a; place = p; lent = l }
+
+-- what a command does, and then what the commands after it do
+abbrev pub before : Outcome → Ran → Ran
+before o r = ran (o .answer ∷ r .answers) (r .place) (r .lent)
+
 unfoldable pub run : ℕ → List Command → Place → Lent → Ran
-run n [] p l = record { answers = []; place = p; lent = l }
-run n (c ∷ cs) p l =
+run n [] p l = ran [] p l
+run n (c ∷ cs) p l = let o = command n c p l in before o (run n cs (o .answer .place) (o .lent))
+
+-- 'stops at the first refused command': its answer is the last
+unfoldable pub runToRefusal : ℕ → List Command → Place → Lent → Ran
+runToRefusal n [] p l = ran [] p l
+runToRefusal n (c ∷ cs) p l =
     let o = command n c p l in
-    let r = run n cs (o .answer .place) (o .lent) in
-    record { answers = o .answer ∷ r .answers; place = r .place; lent = r .lent }
+    cond (eqb (o .answer .number) 0) (before o (runToRefusal n cs (o .answer .place) (o .lent))) (before o (ran [] (o .answer .place) (o .lent)))
+
+-- the numbers answered, in order
+abbrev pub numbers : Ran → List ℕ
+numbers r = map (λ a. a .number) (r .answers)
+
+-- 'an empty place record'
+abbrev pub empty : Place
+empty = record { handles = 0; inputs = 0; drawn = counts 0 0 0 0; received = received 0 0 0 0 }
 
 -- 'each command's answered number and place record, in order'
 pub record Reply : Type 0 where

@@ -58,8 +58,8 @@ row n Open = line Handle Unused 1 1 0 0 (received 1 1 1 3) (counts 0 1 1 1)
 row n Below = line Handle Handle 1 1 1 0 (received (2 + 4 * n) (8 + 4 * n) (8 + 4 * n) 0) (counts 0 (8 + 2 * n) (2 + 2 * n) (2 + 2 * n))
 
 -- an open is the one command with words for the controller
-abbrev pub opens : ℕ → Code → Bool
-opens n x = ltb 0 (row n x .received .controller)
+abbrev pub opens : Row → Bool
+opens x = ltb 0 (x .received .controller)
 
 -- the place record moved on by a row's counts
 abbrev pub moved : Place → Row → Place

@@ -2,7 +2,8 @@
 ghost use mathlib.Core.Path.{_≡_};
 ghost use Rattle.protocols.specs.Place.{tapes, lists};
 ghost use Rattle.machine.specs.Lent.{tables, lent};
-ghost use Rattle.machine.specs.Effect.{openedBy, Ready};
+ghost use Rattle.machine.specs.Command as command;
+ghost use Rattle.machine.specs.Effect.{Ready};
 ghost use Rattle.machine.specs.Effect as spec;
 use super::code::Code;
 use super::code::Command;
@@ -52,7 +53,7 @@ fn refused(number: u32, p: Place) -> Effect
 
 // The opened word: only an open has words for the controller.
 fn opened(x: Row, s: Shares) -> u32
-    ensures { λ r. ⌜ r ≡ openedBy x s ⌝ }
+    ensures { λ r. ⌜ r ≡ command.opened 5 x s ⌝ }
 {
     let received = x.received;
     if 0 < received.controller {
@@ -96,7 +97,7 @@ fn accepted(
     tape3: &[u32],
 ) -> Effect
     requires { ⌜ Ready code p (tapes (now provider) (now tape1) (now tape2) (now tape3)) ⌝ }
-    ensures { λ r. ⌜ r ≡ spec.accepted 5 code c p (tables (now (share1 .entry)) (now (share2 .entry)) (now (share3 .entry))) (now (inputs .entry)) (tapes (now (provider .entry)) (now (tape1 .entry)) (now (tape2 .entry)) (now (tape3 .entry))) ⌝ }
+    ensures { λ r. ⌜ r ≡ spec.accepted code c p (tables (now (share1 .entry)) (now (share2 .entry)) (now (share3 .entry))) (now (inputs .entry)) (tapes (now (provider .entry)) (now (tape1 .entry)) (now (tape2 .entry)) (now (tape3 .entry))) ⌝ }
 {
     let x = row::of(code);
     let g = Given::of(c, p, share1, share2, share3, inputs);

@@ -1,13 +1,13 @@
 -- One command: the shares after it combine to what the register machine holds.
 use Prim.Native.Nat.{ℕ, zero, suc, _+_, _-_, _≤_, _<_}
-use mathlib.Core.Path.{_≡_, refl, sym, ap, ap₂, _∙_, subst}
+use mathlib.Core.Path.{_≡_, refl, sym, ap, ap₂, _∙_, subst, subst₂}
 use mathlib.Core.Bool.{Bool, true, false, cond, _&&_, and-false}
 use mathlib.Core.List.{List, [], _∷_, _++_}
 use native.Mathlib.Nat.{add-zero}
 use native.Mathlib.Numerals.{add-one}
 use native.Mathlib.Omega.{arith}
 use borrow.Author.Tests.{eqb-true, ne-eqb}
-use lib.ListN.{length, getD}
+use lib.ListN.{length, getD, take}
 use lib.Seq.{length-sets}
 use lib.Dec.{eqb}
 use lib.Pow.{pow-pos}
@@ -15,7 +15,7 @@ use Rattle.protocols.specs.declared.place.Drawn.{Drawn}
 use Rattle.protocols.specs.declared.place.Place.{Place}
 use Rattle.protocols.specs.declared.shares.Shares.{Shares}
 use Rattle.protocols.specs.Word.{width, modulus, add, sub, mul, bitAt}
-use Rattle.protocols.specs.Shares.{Miner, one, two, three, at, each, sumOf}
+use Rattle.protocols.specs.Shares.{Miner, one, two, three, at, each, AreWords as AreWordsOf, sumOf}
 use Rattle.protocols.specs.Place.{Tapes, Lists, Receiver, controller, list, block}
 use Rattle.protocols.specs.Contents.{Below as AllBelow, Contents}
 use Rattle.protocols.specs.Counts.{received, due}
@@ -38,11 +38,11 @@ use Rattle.machine.specs.Start.{combined, registerOf, upTo, start}
 use Rattle.machine.specs.Run.{isOpen}
 use Rattle.machine.specs.Claims.{Appended, New, Opened, Entry2}
 use Rattle.machine.proofs.Laws.Accepted.{both, Passed, all-passed, has-room}
-use Rattle.machine.proofs.Laws.Steps.{GivenAreWords, count-lengths, steps-counted, steps-combine, open-hands}
+use Rattle.machine.proofs.Laws.Steps.{IfHandle, GivenAreWords, count-lengths, steps-counted, steps-combine, open-hands}
 use Rattle.machine.proofs.Laws.Rows.{values-at-most-1, same-code, opens-at-11}
 use Rattle.machine.proofs.Laws.Refusals.{above-zero}
 use Rattle.machine.proofs.Laws.Judge.{is-filled, same-lengths, judge-same}
-use Rattle.machine.proofs.Laws.Entries.{getD-upTo, upTo-same, entry-set-old, entry-set-new, getD-put, length-put, table-withShares, sets-appended, list-withWords, due-listLengths, below-getD, shares-are-words, below-put, below-sets}
+use Rattle.machine.proofs.Laws.Entries.{getD-upTo, upTo-same, entry-set-old, entry-set-new, getD-put, length-put, table-withShares, sets-appended, list-withWords, due-listLengths, due-moved, below-getD, shares-are-words, below-put, below-sets}
 
 -- ---- registers of filled handles, and the operands' words
 
@@ -56,14 +56,7 @@ register-combines : (n : ℕ) (l : Lent) (h : ℕ) (r : Register) → registerOf
 register-combines n l h r e =
     (ap (λ (q : Register). q .kind) e, subst (λ (q : Register). combined (modulus n) (q .kind) (sharesAt (l .tables) h) ≡ q .word) e refl)
 
--- the same word, where the field names a handle
-abbrev SameIfHandle : Use → ℕ → ℕ → Type 0
-SameIfHandle Unused x y = Unit {0}
-SameIfHandle Handle x y = x ≡ y
-SameIfHandle Word x y = Unit {0}
-SameIfHandle Position x y = Unit {0}
-
-value-same : (n : ℕ) (x : Code) (u u′ v v′ b input : ℕ) → SameIfHandle (row n x .a) u u′ → SameIfHandle (row n x .b) v v′
+value-same : (n : ℕ) (x : Code) (u u′ v v′ b input : ℕ) → IfHandle (row n x .a) (u ≡ u′) → IfHandle (row n x .b) (v ≡ v′)
     → value n x u v b input ≡ value n x u′ v′ b input
 value-same n Store u u′ v v′ b input e f = refl
 value-same n Add u u′ v v′ b input e f = ap₂ (add (modulus n)) e f
@@ -78,15 +71,29 @@ value-same n Equal u u′ v v′ b input e f = ap₂ (λ (w z : ℕ). cond (eqb 
 value-same n Open u u′ v v′ b input e f = e
 value-same n Below u u′ v v′ b input e f = ap₂ (λ (w z : ℕ). bitAt (sub (modulus n) w z) (width n - 1)) e f
 
+-- a field of a command that has passed, which names a handle: its shares are words, and combine to its register's word
+operand-words : (n : ℕ) (p : Place) (l : Lent) (u : Use) (h : ℕ) → AreWords (modulus n) p l → meets u true (filled p h) true ≡ true
+    → IfHandle u (AreWordsOf (modulus n) (sharesAt (l .tables) h))
+operand-words n p l Unused h w e = tt
+operand-words n p l Handle h w e = shares-are-words (modulus n) p l h (pow-pos (width n)) (is-filled p h e) (w .shares)
+operand-words n p l Word h w e = tt
+operand-words n p l Position h w e = tt
+
 operand-word : (n : ℕ) (p : Place) (l : Lent) (u : Use) (h k : ℕ) → meets u true (filled p h) true ≡ true
     → meets u true (eqb (entry (l .kinds) h) k) true ≡ true
-    → SameIfHandle u (combined (modulus n) k (sharesAt (l .tables) h)) (named (start n p l .held) h .word)
+    → IfHandle u (combined (modulus n) k (sharesAt (l .tables) h) ≡ named (start n p l .held) h .word)
 operand-word n p l Unused h k e f = tt
 operand-word n p l Handle h k e f =
     ap (λ (j : ℕ). combined (modulus n) j (sharesAt (l .tables) h)) (sym (eqb-true (entry (l .kinds) h) k f))
     ∙ ap (λ (r : Register). r .word) (sym (named-start n p l h (is-filled p h e)))
 operand-word n p l Word h k e f = tt
 operand-word n p l Position h k e f = tt
+
+-- the shares of the handle that an open names add up to its register's word
+pub open-names : (n : ℕ) (c : Command) (p : Place) (l : Lent) → Passed n Open c p (sizes l) (l .kinds)
+    → sumOf (modulus n) (sharesAt (l .tables) (c .a)) ≡ named (start n p l .held) (c .a) .word
+open-names n c p l a =
+    operand-word n p l Handle (c .a) 1 (both (filled p (c .a)) true (a .seven) .0) (both (eqb (entry (l .kinds) (c .a)) 1) true (a .eight) .0)
 
 -- ---- one register more
 
@@ -118,99 +125,110 @@ module _ (n : ℕ) (l : Lent) (h : ℕ) (s : Shares) (k : ℕ) (r : Lists) where
 
 -- ---- an accepted command
 
-given-are-words : (n : ℕ) (c : Command) (p : Place) (l : Lent) → AreWords (modulus n) l → GivenAreWords (modulus n) (given (l .tables) (l .inputs) p c)
-given-are-words n c p l w =
-    let m = modulus n in
-    let above = pow-pos (width n) in
-    (below-getD m (l .inputs) (p .inputs) above (w .inputs), shares-are-words m (l .tables) (c .a) above (w .tables), shares-are-words m (l .tables) (c .b) above (w .tables))
-
 module _ (n : ℕ) (c : Command) (p : Place) (l : Lent) (x : Code) where
-  -- what the command takes, draws, makes, sends and leaves
-  abbrev takes : Given
+  -- what the command takes, and the next words of the tapes
+  abbrev pub takes : Given
   takes = given (l .tables) (l .inputs) p c
 
-  abbrev draws : Tapes
+  abbrev pub draws : Tapes
   draws = block (protocol n x (c .b) .draws) p (l .tapes)
 
-  abbrev makes : Shares
-  makes = protocol n x (c .b) .result takes draws
+  module _ (b : Tapes) where
+    -- what it makes, sends and leaves on a block of words
+    abbrev pub makes : Shares
+    makes = protocol n x (c .b) .result takes b
 
-  abbrev sends : Lists
-  sends = protocol n x (c .b) .received takes draws
+    abbrev pub sends : Lists
+    sends = protocol n x (c .b) .received takes b
 
-  abbrev leaves : Lent
-  leaves = written (row n x) p makes sends l
+    abbrev pub leaves : Lent
+    leaves = written (row n x) p makes sends l
 
-  sizes-left : sizes leaves ≡ sizes l
-  sizes-left =
-      let v = row n x .values in
-      let t = l .tables in
-      let r = l .received in
-      λ i. record {
-        one = length-put v (t .one) (p .handles) (makes .one) i;
-        two = length-put v (t .two) (p .handles) (makes .two) i;
-        three = length-put v (t .three) (p .handles) (makes .three) i;
-        kinds = length-put v (l .kinds) (p .handles) (row n x .kind) i;
-        inputs = length (l .inputs);
-        tapes = tapeLengths (l .tapes);
-        received = received (length-sets (r .one) (p .received .one) (sends .one) i) (length-sets (r .two) (p .received .two) (sends .two) i)
-            (length-sets (r .three) (p .received .three) (sends .three) i) (length-sets (r .controller) (p .received .controller) (sends .controller) i);
-      }
+    pub sizes-left : sizes leaves ≡ sizes l
+    sizes-left =
+        let v = row n x .values in
+        let t = l .tables in
+        let r = l .received in
+        λ i. record {
+          one = length-put v (t .one) (p .handles) (makes .one) i;
+          two = length-put v (t .two) (p .handles) (makes .two) i;
+          three = length-put v (t .three) (p .handles) (makes .three) i;
+          kinds = length-put v (l .kinds) (p .handles) (row n x .kind) i;
+          inputs = length (l .inputs);
+          tapes = tapeLengths (l .tapes);
+          received = received (length-sets (r .one) (p .received .one) (sends .one) i) (length-sets (r .two) (p .received .two) (sends .two) i)
+              (length-sets (r .three) (p .received .three) (sends .three) i) (length-sets (r .controller) (p .received .controller) (sends .controller) i);
+        }
 
-  table-left : (i : Miner) → table i (leaves .tables) ≡ put (row n x .values) (table i (l .tables)) (p .handles) (at i makes)
-  table-left i = table-withShares i (row n x .values) (l .tables) (p .handles) makes
+    pub table-left : (i : Miner) → table i (leaves .tables) ≡ put (row n x .values) (table i (l .tables)) (p .handles) (at i makes)
+    table-left i = table-withShares i (row n x .values) (l .tables) (p .handles) makes
 
-  module _ (w : AreWords (modulus n) l) (a : Passed n x c p (sizes l) (l .kinds)) where
+  module _ (a : Passed n x c p (sizes l) (l .kinds)) where
+    same : (i : Miner) → length (table i (l .tables)) ≡ length (l .kinds)
+    same = same-lengths l (both _ _ (a .four) .0)
+
+    fits : p .handles + row n x .values ≤ length (l .kinds)
+    fits = omega (arith, has-room a .handles, same one)
+
+    -- the words sent stand behind those that each list held
+    appended : (b : Tapes) (r : Receiver) → Appended (list r (l .received)) (due r (p .received)) (list r (sends b)) (list r (leaves b .received))
+    appended b r =
+        list-withWords r (l .received) p (sends b)
+        ∙ sets-appended (list r (l .received)) (due r (p .received)) (list r (sends b))
+        (omega (arith, has-room a .received r, due-listLengths r (l .received), steps-counted n x (c .b) .long takes b r))
+
+  module _ (w : AreWords (modulus n) p l) (a : Passed n x c p (sizes l) (l .kinds)) where
+    filled-fields : (meets (row n x .a) true (filled p (c .a)) true ≡ true) × (meets (row n x .b) true (filled p (c .b)) true ≡ true)
+    filled-fields = both (meets (row n x .a) true (filled p (c .a)) true) (meets (row n x .b) true (filled p (c .b)) true) (a .seven)
+
+    pub given-are-words : GivenAreWords n x takes
+    given-are-words = (
+      below-getD (modulus n) (l .inputs) (p .inputs) (pow-pos (width n)) (w .inputs),
+      operand-words n p l (row n x .a) (c .a) w (filled-fields .0),
+      operand-words n p l (row n x .b) (c .b) w (filled-fields .1),
+    )
+
     drawn-words : Contents (modulus n) (protocol n x (c .b) .draws) draws
     drawn-words =
         subst (λ (d : Drawn). Contents (modulus n) d (block d p (l .tapes))) (sym (steps-counted n x (c .b) .drawn))
         (block-contents (modulus n) (row n x .drawn) p (l .tapes) (w .tapes) (λ i. omega (arith, has-room a .drawn i, count-lengths i (l .tapes))))
 
-    words-left : AreWords (modulus n) leaves
-    words-left = record {
-      tables = λ i. subst (AllBelow (modulus n)) (sym (table-left i))
-          (below-put (modulus n) (row n x .values) (table i (l .tables)) (p .handles) (at i makes) (w .tables i)
-          (steps-counted n x (c .b) .made takes (given-are-words n c p l w) draws drawn-words i));
-      inputs = w .inputs;
-      tapes = w .tapes;
-      received = λ r. subst (AllBelow (modulus n)) (sym (list-withWords r (l .received) p sends))
-          (below-sets (modulus n) (list r (l .received)) (due r (p .received)) (list r sends) (w .received r)
-          (steps-counted n x (c .b) .delivered takes (given-are-words n c p l w) draws drawn-words r .below));
-    }
+    module _ (b : Tapes) (h : Contents (modulus n) (protocol n x (c .b) .draws) b) where
+      pub words-left : AreWords (modulus n) (moved p (row n x)) (leaves b)
+      words-left = record {
+        shares = λ i. subst (λ (t : List ℕ). AllBelow (modulus n) (take (p .handles + row n x .values) t)) (sym (table-left b i))
+            (below-put (modulus n) (row n x .values) (table i (l .tables)) (p .handles) (at i (makes b)) (values-at-most-1 n x)
+            (omega (arith, fits a, same a i)) (w .shares i) (steps-counted n x (c .b) .made takes given-are-words b h i));
+        inputs = w .inputs;
+        tapes = w .tapes;
+        received = λ r. subst₂ (λ (k : ℕ) (t : List ℕ). AllBelow (modulus n) (take k t)) (sym (due-moved r p (row n x)))
+            (sym (list-withWords r (l .received) p (sends b)))
+            (below-sets (modulus n) (list r (l .received)) (due r (p .received)) (list r (sends b)) (due r (row n x .received))
+            (steps-counted n x (c .b) .long takes b r) (omega (arith, has-room a .received r, due-listLengths r (l .received)))
+            (w .received r) (steps-counted n x (c .b) .delivered takes given-are-words b h r .below));
+      }
 
-    -- the words sent stand behind those that each list held
-    appended : (r : Receiver) → Appended (list r (l .received)) (due r (p .received)) (list r sends) (list r (leaves .received))
-    appended r =
-        list-withWords r (l .received) p sends
-        ∙ sets-appended (list r (l .received)) (due r (p .received)) (list r sends)
-        (omega (arith, has-room a .received r, due-listLengths r (l .received), steps-counted n x (c .b) .long takes draws r))
+      -- the new shares give the register machine's value
+      new-word : combined (modulus n) (row n x .kind) (makes b)
+          ≡ value n x (named (start n p l .held) (c .a) .word) (named (start n p l .held) (c .b) .word) (c .b) (getD (l .inputs) (p .inputs) 0)
+      new-word =
+          let y = row n x in
+          let k = l .kinds in
+          let g = both (meets (y .a) true (eqb (entry k (c .a)) (y .operands)) true) (meets (y .b) true (eqb (entry k (c .b)) (y .operands)) true) (a .eight) in
+          steps-combine n x (c .b) takes b given-are-words h
+          ∙ value-same n x _ _ _ _ (c .b) (getD (l .inputs) (p .inputs) 0) (operand-word n p l (y .a) (c .a) (y .operands) (filled-fields .0) (g .0))
+          (operand-word n p l (y .b) (c .b) (y .operands) (filled-fields .1) (g .1))
 
-    -- the new shares give the register machine's value
-    new-word : combined (modulus n) (row n x .kind) makes
-        ≡ value n x (named (start n p l .held) (c .a) .word) (named (start n p l .held) (c .b) .word) (c .b) (getD (l .inputs) (p .inputs) 0)
-    new-word =
-        let y = row n x in
-        let k = l .kinds in
-        let f = both (meets (y .a) true (filled p (c .a)) true) (meets (y .b) true (filled p (c .b)) true) (a .seven) in
-        let g = both (meets (y .a) true (eqb (entry k (c .a)) (y .operands)) true) (meets (y .b) true (eqb (entry k (c .b)) (y .operands)) true) (a .eight) in
-        steps-combine n x (c .b) takes draws (given-are-words n c p l w) drawn-words
-        ∙ value-same n x _ _ _ _ (c .b) (getD (l .inputs) (p .inputs) 0) (operand-word n p l (y .a) (c .a) (y .operands) (f .0) (g .0))
-        (operand-word n p l (y .b) (c .b) (y .operands) (f .1) (g .1))
-
-    start-accepted : start n (moved p (row n x)) leaves ≡ after n (Accepted x) c (l .inputs) (start n p l)
-    unfolding start
-    start-accepted = λ i. registers (held i) (moved p (row n x))
-      where
-        same : (i : Miner) → length (table i (l .tables)) ≡ length (l .kinds)
-        same = same-lengths l (both _ _ (a .four) .0)
-
-        fits : p .handles + row n x .values ≤ length (l .kinds)
-        fits = omega (arith, has-room a .handles, same one)
-
-        held : upTo (p .handles + row n x .values) (registerOf n leaves) ≡ after n (Accepted x) c (l .inputs) (start n p l) .held
-        held =
-            registers-grow n l (p .handles) makes (row n x .kind) (leaves .received) (row n x .values) (values-at-most-1 n x) (λ i. omega (arith, fits, same i)) fits
-            ∙ ap (λ (u : ℕ). grown (row n x .values) (start n p l .held) (register u (row n x .kind))) new-word
+      -- the registers that the shares stand for are those of the register machine after the command
+      pub start-left : start n (moved p (row n x)) (leaves b) ≡ after n (Accepted x) c (l .inputs) (start n p l)
+      unfolding start
+      start-left = λ i. registers (held i) (moved p (row n x))
+        where
+          held : upTo (p .handles + row n x .values) (registerOf n (leaves b)) ≡ after n (Accepted x) c (l .inputs) (start n p l) .held
+          held =
+              registers-grow n l (p .handles) (makes b) (row n x .kind) (leaves b .received) (row n x .values) (values-at-most-1 n x)
+              (λ i. omega (arith, fits a, same a i)) (fits a)
+              ∙ ap (λ (u : ℕ). grown (row n x .values) (start n p l .held) (register u (row n x .kind))) new-word
 
 -- ---- a command, accepted or refused
 
@@ -221,7 +239,7 @@ record Kept (n : ℕ) (p : Place) (l : Lent) (o : Outcome) : Type 0 where
   inputs-kept : o .lent .inputs ≡ l .inputs
   tapes-kept : o .lent .tapes ≡ l .tapes
   sizes-kept : sizes (o .lent) ≡ sizes l
-  words : AreWords (modulus n) (o .lent)
+  words : AreWords (modulus n) (o .answer .place) (o .lent)
 
 module _ (n : ℕ) (c : Command) (p : Place) (l : Lent) where
   abbrev decision : Verdict
@@ -239,7 +257,7 @@ module _ (n : ℕ) (c : Command) (p : Place) (l : Lent) where
   number-decided (Accepted x) = refl
   number-decided (Refused r) = refl
 
-  code-opens : (x : Code) → decision ≡ Accepted x → eqb (c .code) 11 ≡ opens n x
+  code-opens : (x : Code) → decision ≡ Accepted x → eqb (c .code) 11 ≡ opens (row n x)
   code-opens x e = opens-at-11 n (c .code) x (has-passed x e .known)
 
   accepts-open : (x : Code) → decision ≡ Accepted x → c .code ≡ 11 → decision ≡ Accepted Open
@@ -247,32 +265,32 @@ module _ (n : ℕ) (c : Command) (p : Place) (l : Lent) where
 
   not-opened-by : (v : Verdict) → decision ≡ v → ¬ (c .code ≡ 11) → decided n v c p l .answer .opened ≡ 0
   unfolding accepted
-  not-opened-by (Accepted x) e f = ap (λ (b : Bool). cond b (sumOf (modulus n) (makes n c p l x)) 0) (sym (code-opens x e) ∙ ne-eqb (c .code) 11 f)
+  not-opened-by (Accepted x) e f = ap (λ (b : Bool). cond b (sumOf (modulus n) (makes n c p l x (draws n c p l x))) 0) (sym (code-opens x e) ∙ ne-eqb (c .code) 11 f)
   not-opened-by (Refused r) e f = refl
 
-  module _ (w : AreWords (modulus n) l) where
+  module _ (w : AreWords (modulus n) p l) where
     kept-by : (v : Verdict) → decision ≡ v → Kept n p l (decided n v c p l)
     unfolding accepted
     kept-by (Accepted x) e = record {
-      tables-kept = λ i k h. ap (λ (t : List ℕ). getD t k 0) (table-left n c p l x i)
-          ∙ getD-put (row n x .values) (table i (l .tables)) (p .handles) (at i (makes n c p l x)) k h;
+      tables-kept = λ i k h. ap (λ (t : List ℕ). getD t k 0) (table-left n c p l x (draws n c p l x) i)
+          ∙ getD-put (row n x .values) (table i (l .tables)) (p .handles) (at i (makes n c p l x (draws n c p l x))) k h;
       kinds-kept = getD-put (row n x .values) (l .kinds) (p .handles) (row n x .kind);
       inputs-kept = refl;
       tapes-kept = refl;
-      sizes-kept = sizes-left n c p l x;
-      words = words-left n c p l x w (has-passed x e);
+      sizes-kept = sizes-left n c p l x (draws n c p l x);
+      words = words-left n c p l x w (has-passed x e) (draws n c p l x) (drawn-words n c p l x w (has-passed x e));
     }
     kept-by (Refused r) e = record { tables-kept = λ i k h. refl; kinds-kept = λ k h. refl; inputs-kept = refl; tapes-kept = refl; sizes-kept = refl; words = w }
 
     appended-by : (x : Code) → decision ≡ Accepted x → (r : Receiver)
-        → Appended (list r (l .received)) (due r (p .received)) (list r (sends n c p l x)) (list r (command n c p l .lent .received))
+        → Appended (list r (l .received)) (due r (p .received)) (list r (sends n c p l x (draws n c p l x))) (list r (command n c p l .lent .received))
     unfolding accepted
-    appended-by x e r = ap (λ (o : Outcome). list r (o .lent .received)) (command-accepts x e) ∙ appended n c p l x w (has-passed x e) r
+    appended-by x e r = ap (λ (o : Outcome). list r (o .lent .received)) (command-accepts x e) ∙ appended n c p l x (has-passed x e) (draws n c p l x) r
 
     -- the registers
     start-by : (v : Verdict) → decision ≡ v → start n (decided n v c p l .answer .place) (decided n v c p l .lent) ≡ after n v c (l .inputs) (start n p l)
     unfolding accepted
-    start-by (Accepted x) e = start-accepted n c p l x w (has-passed x e)
+    start-by (Accepted x) e = start-left n c p l x w (has-passed x e) (draws n c p l x) (drawn-words n c p l x w (has-passed x e))
     start-by (Refused r) e = refl
 
     pub start-after : start n (command n c p l .answer .place) (command n c p l .lent) ≡ step n c (sizes l) (l .inputs) (start n p l)
@@ -283,9 +301,10 @@ module _ (n : ℕ) (c : Command) (p : Place) (l : Lent) where
     accepted-open : decision ≡ Accepted Open → Opened n c p l
     unfolding accepted
     accepted-open e =
-        let is-held = new-word n c p l Open w (has-passed Open e) in
+        let a = has-passed Open e in
+        let is-held = new-word n c p l Open w a (draws n c p l Open) (drawn-words n c p l Open w a) in
         record {
-          shares = makes n c p l Open;
+          shares = makes n c p l Open (draws n c p l Open);
           handed = subst (λ (s : List ℕ). Appended (l .received .controller) (p .received .controller) s (command n c p l .lent .received .controller))
               (open-hands n (c .b) (takes n c p l Open) (draws n c p l Open)) (appended-by Open e controller);
           add-up = is-held;
@@ -302,7 +321,7 @@ module _ (n : ℕ) (c : Command) (p : Place) (l : Lent) where
     shown-by (Accepted x) e = by-code (eqb (c .code) 11) refl ∙ ap (λ (b : Bool). cond b (named (start n p l .held) (c .a) .word ∷ []) []) (code-opens x e)
       where
         by-code : (b : Bool) → eqb (c .code) 11 ≡ b
-            → cond (b && true) (opened n x (makes n c p l x) ∷ []) [] ≡ cond b (named (start n p l .held) (c .a) .word ∷ []) []
+            → cond (b && true) (opened n (row n x) (makes n c p l x (draws n c p l x)) ∷ []) [] ≡ cond b (named (start n p l .held) (c .a) .word ∷ []) []
         by-code true f = ap (λ (u : ℕ). u ∷ [])
             (ap (λ (o : Outcome). o .answer .opened) (sym (command-accepts x e)) ∙ accepted-open (accepts-open x e (eqb-true (c .code) 11 f)) .told)
         by-code false f = refl
@@ -316,7 +335,7 @@ module _ (n : ℕ) (c : Command) (p : Place) (l : Lent) where
 
 -- ---- entry 2
 
-pub entry-2 : (n : ℕ) (c : Command) (p : Place) (l : Lent) → AreWords (modulus n) l → Entry2 n c p l
+pub entry-2 : (n : ℕ) (c : Command) (p : Place) (l : Lent) → AreWords (modulus n) p l → Entry2 n c p l
 unfolding command start
 entry-2 n c p l w =
     let v = decision n c p l in

@@ -141,7 +141,7 @@ module _ (c : Command) (p : Place) (l : Lent) where
   refused-made ev er ee = ee ∙ ap (λ (v : Verdict). computed v c p l) (sym er ∙ ev)
 
   pub accepted-made : {v : Verdict} {e : Effect} {x : Code} → v ≡ verdict 5 c p (sizes l) (l .kinds) → v ≡ Accepted x
-      → e ≡ accepted 5 x c p (l .tables) (l .inputs) (l .tapes) → e ≡ effect c p l
+      → e ≡ accepted x c p (l .tables) (l .inputs) (l .tapes) → e ≡ effect c p l
   unfolding effect
   accepted-made ev ex ee = ee ∙ ap (λ (v : Verdict). computed v c p l) (sym ex ∙ ev)
 

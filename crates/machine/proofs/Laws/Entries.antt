@@ -1,18 +1,23 @@
 -- Lent lists: entries by handle, one that is written, words that are appended and words that are drawn.
 use Prim.Native.Nat.{ℕ, zero, suc, _+_, _-_, _≤_, _<_}
-use mathlib.Core.Path.{_≡_, refl, sym, ap, ap₂, _∙_}
+use mathlib.Core.Path.{_≡_, refl, sym, ap, ap₂, _∙_, subst}
 use mathlib.Core.List.{List, [], _∷_, _++_, map, map-append, append-assoc}
 use native.Mathlib.Decide.{decLt}
+use native.Mathlib.Nat.{add-zero}
+use native.Mathlib.Numerals.{add-one}
 use native.Mathlib.Omega.{arith}
 use lib.ListN.{length, getD, take, drop, set, length-append, length-set, List·getD-append}
-use lib.Seq.{take-suc, getD-at, getD-set-same, getD-set-other, sets, sets-eq}
+use lib.Seq.{take-suc, take-at, take-suc-set, length-take-le, getD-at, getD-set-same, getD-set-other, sets, sets-eq}
 use Rattle.protocols.specs.declared.place.Place.{Place}
 use Rattle.protocols.specs.declared.shares.Shares.{Shares}
 use Rattle.protocols.specs.Shares.{Miner, one, two, three, at, AreWords}
 use Rattle.protocols.specs.Place.{Lists, Receiver, miner, controller, list}
 use Rattle.protocols.specs.Contents.{Below}
 use Rattle.protocols.specs.Counts.{due}
-use Rattle.machine.specs.Lent.{Tables, table, listLengths, entry, sharesAt}
+use Rattle.machine.specs.declared.row.Row.{Row}
+use Rattle.machine.specs.Table.{moved}
+use Rattle.machine.specs.Lent.{Tables, Lent, table, listLengths, entry, sharesAt, Filled, filledShares}
+use Rattle.protocols.proofs.Laws.Blocks.{below-append}
 use Rattle.machine.specs.Command.{put, withShares, withWords}
 use Rattle.machine.specs.Start.{upTo}
 
@@ -93,6 +98,12 @@ due-listLengths (miner two) l = refl
 due-listLengths (miner three) l = refl
 due-listLengths controller l = refl
 
+pub due-moved : (r : Receiver) (p : Place) (x : Row) → due r (moved p x .received) ≡ due r (p .received) + due r (x .received)
+due-moved (miner one) p x = refl
+due-moved (miner two) p x = refl
+due-moved (miner three) p x = refl
+due-moved controller p x = refl
+
 -- ---- every word is below m
 
 module _ (m : ℕ) where
@@ -101,20 +112,30 @@ module _ (m : ℕ) where
   below-getD (x ∷ l) zero h b = b .0
   below-getD (x ∷ l) (suc i) h b = below-getD l i h (b .1)
 
-  pub shares-are-words : (t : Tables) (h : ℕ) → 0 < m → ((i : Miner) → Below m (table i t)) → AreWords m (sharesAt t h)
-  shares-are-words t h k b one = below-getD (t .one) (h - 1) k (b one)
-  shares-are-words t h k b two = below-getD (t .two) (h - 1) k (b two)
-  shares-are-words t h k b three = below-getD (t .three) (h - 1) k (b three)
+  below-filled : (l : List ℕ) (k i : ℕ) → 0 < m → i < k → Below m (take k l) → getD l i 0 < m
+  below-filled [] k i h j b = h
+  below-filled (x ∷ l) zero i h j b = absurd (omega arith)
+  below-filled (x ∷ l) (suc k) zero h j b = b .0
+  below-filled (x ∷ l) (suc k) (suc i) h j b = below-filled l k i h (omega arith) (b .1)
 
-  below-set : (l : List ℕ) (k w : ℕ) → Below m l → w < m → Below m (set l k w)
-  below-set [] k w b h = tt
-  below-set (x ∷ l) zero w b h = (h, b .1)
-  below-set (x ∷ l) (suc k) w b h = (b .0, below-set l k w (b .1) h)
+  pub shares-are-words : (p : Place) (l : Lent) (h : ℕ) → 0 < m → Filled p h → ((i : Miner) → Below m (filledShares p l i)) → AreWords m (sharesAt (l .tables) h)
+  shares-are-words p l h k f b one = below-filled (l .tables .one) (p .handles) (h - 1) k (omega (arith, f)) (b one)
+  shares-are-words p l h k f b two = below-filled (l .tables .two) (p .handles) (h - 1) k (omega (arith, f)) (b two)
+  shares-are-words p l h k f b three = below-filled (l .tables .three) (p .handles) (h - 1) k (omega (arith, f)) (b three)
 
-  pub below-put : (v : ℕ) (l : List ℕ) (k w : ℕ) → Below m l → w < m → Below m (put v l k w)
-  below-put zero l k w b h = b
-  below-put (suc v) l k w b h = below-set l k w b h
+  -- one entry more is filled, or none
+  pub below-put : (v : ℕ) (l : List ℕ) (k w : ℕ) → v ≤ 1 → k + v ≤ length l → Below m (take k l) → w < m → Below m (take (k + v) (put v l k w))
+  below-put zero l k w i h b c = subst (λ (j : ℕ). Below m (take j l)) (sym (add-zero k)) b
+  below-put (suc zero) l k w i h b c =
+      subst (Below m) (sym (ap (λ (j : ℕ). take j (set l k w)) (add-one k) ∙ take-suc-set l k w (omega arith))) (below-append m (take k l) (w ∷ []) b (c, tt))
+  below-put (suc (suc v)) l k w i h b c = absurd (omega arith)
 
-  pub below-sets : (l : List ℕ) (k : ℕ) (s : List ℕ) → Below m l → Below m s → Below m (sets l k s)
-  below-sets l k [] b c = b
-  below-sets l k (w ∷ s) b c = below-sets (set l k w) (suc k) s (below-set l k w b (c .0)) (c .1)
+  -- words more are filled
+  pub below-sets : (l : List ℕ) (k : ℕ) (s : List ℕ) (j : ℕ) → length s ≡ j → k + j ≤ length l → Below m (take k l) → Below m s → Below m (take (k + j) (sets l k s))
+  below-sets l k s j e h b c = subst (Below m) (sym filled) (below-append m (take k l) s b c)
+    where
+      long : length (take k l ++ s) ≡ k + j
+      long = length-append (take k l) s ∙ omega (arith, length-take-le k l (omega (arith, h)), e)
+
+      filled : take (k + j) (sets l k s) ≡ take k l ++ s
+      filled = ap (take (k + j)) (sets-eq s l k (omega (arith, h, e))) ∙ take-at (take k l ++ s) (drop (k + length s) l) (k + j) long

@@ -21,8 +21,8 @@ use Rattle.machine.specs.declared.given.Given.{Given}
 use Rattle.machine.specs.Table.{row}
 use Rattle.machine.specs.Lent.{Tables}
 use Rattle.machine.specs.Steps.{protocol}
-use Rattle.machine.specs.Command.{given}
-use Rattle.machine.specs.Effect.{Ready, counted, openedBy, accepted}
+use Rattle.machine.specs.Command.{given, opened}
+use Rattle.machine.specs.Effect.{Ready, counted, accepted}
 use Rattle.machine.proofs.Laws.Steps.{performs}
 
 -- ---- on all four tapes
@@ -77,11 +77,11 @@ Made r o w = record { number = o .number; place = o .place; opened = w; values =
 -- from the row, what is given, the place record before the draws, the protocol's outcome and the opened word
 pub computed-made : (x : Code) (c : Command) (p : Place) (t : Tables) (inputs : List ℕ) (s : Tapes) → Ready x p s
     → {r : Row} {g : Given} {q : Place} {o : Outcome} {w : ℕ}
-    → r ≡ row 5 x → g ≡ given t inputs p c → q ≡ counted p r → o ≡ outcome q (perform (protocol 5 x (c .b)) g q s) → w ≡ openedBy r (o .shares)
-    → Made r o w ≡ accepted 5 x c p t inputs s
+    → r ≡ row 5 x → g ≡ given t inputs p c → q ≡ counted p r → o ≡ outcome q (perform (protocol 5 x (c .b)) g q s) → w ≡ opened 5 r (o .shares)
+    → Made r o w ≡ accepted x c p t inputs s
 unfolding accepted
 computed-made x c p t inputs s h er eg eq eo ew =
     let at = eq ∙ ap (counted p) er in
     let done-at = eo ∙ (λ i. outcome (at i) (perform (protocol 5 x (c .b)) (eg i) (at i) s)) ∙ ap (outcome (counted p (row 5 x))) (performs 5 x (c .b) (given t inputs p c) p (counted p (row 5 x)) s refl (λ i lacks. omega (arith, h .tapes i, lacks))) in
-    let word = ew ∙ (λ i. openedBy (er i) (done-at i .shares)) in
+    let word = ew ∙ (λ i. opened 5 (er i) (done-at i .shares)) in
     λ i. Made (er i) (done-at i) (word i)

@@ -106,13 +106,13 @@ missing-not e = subst tells e tt
 
 -- whatever command is found for the code k, it opens just where k is 11
 abbrev pub OpensAt11 : ℕ → ℕ → Lookup → Type 0
-OpensAt11 n k y = (x : Code) → y ≡ Found x → eqb k 11 ≡ opens n x
+OpensAt11 n k y = (x : Code) → y ≡ Found x → eqb k 11 ≡ opens (row n x)
 
-at-code : (n k j : ℕ) (y : Code) (rest : Lookup) → eqb j 11 ≡ opens n y → OpensAt11 n k rest → OpensAt11 n k (cond (eqb k j) (Found y) rest)
+at-code : (n k j : ℕ) (y : Code) (rest : Lookup) → eqb j 11 ≡ opens (row n y) → OpensAt11 n k rest → OpensAt11 n k (cond (eqb k j) (Found y) rest)
 at-code n k j y rest h r = by-test (eqb k j) refl
   where
     by-test : (b : Bool) → eqb k j ≡ b → OpensAt11 n k (cond b (Found y) rest)
-    by-test true e x f = ap (λ (i : ℕ). eqb i 11) (eqb-true k j e) ∙ h ∙ ap (opens n) (same-code refl f)
+    by-test true e x f = ap (λ (i : ℕ). eqb i 11) (eqb-true k j e) ∙ h ∙ ap (λ (z : Code). opens (row n z)) (same-code refl f)
     by-test false e x f = r x f
 
 pub opens-at-11 : (n k : ℕ) → OpensAt11 n k (find k)

@@ -22,6 +22,8 @@ use Rattle.protocols.proofs.Claims.{claims}
 use Rattle.protocols.proofs.Laws.Blocks.{block-same}
 use Rattle.machine.specs.declared.code.Code.{Code}
 use Rattle.machine.specs.declared.code.Code.the-variants.{Store, Add, Subtract, AddConstant, TimesConstant, Multiply, Reshare, Bits, Bit, Equal, Open, Below}
+use Rattle.machine.specs.declared.row.Use.{Use}
+use Rattle.machine.specs.declared.row.Use.the-variants.{Unused, Handle, Word, Position}
 use Rattle.machine.specs.declared.given.Given.{Given}
 use Rattle.machine.specs.declared.code.Command.{Command}
 use Rattle.machine.specs.Table.{row}
@@ -33,9 +35,17 @@ use Rattle.machine.specs.Start.{combined}
 use Rattle.machine.specs.Claims.{NeverSpent}
 use Rattle.machine.proofs.Laws.Accepted.{every-one, Passed, all-passed}
 
+-- where a field names a handle
+abbrev pub IfHandle : Use → Type 0 → Type 0
+IfHandle Unused A = Unit {0}
+IfHandle Handle A = A
+IfHandle Word A = Unit {0}
+IfHandle Position A = Unit {0}
+
 -- what a command works on is words
-abbrev pub GivenAreWords : ℕ → Given → Type 0
-GivenAreWords m g = (g .input < m) × AreWords m (g .u) × AreWords m (g .v)
+abbrev pub GivenAreWords : ℕ → Code → Given → Type 0
+GivenAreWords n x g =
+    (g .input < modulus n) × IfHandle (row n x .a) (AreWords (modulus n) (g .u)) × IfHandle (row n x .b) (AreWords (modulus n) (g .v))
 
 -- ---- counts
 
@@ -51,7 +61,7 @@ counted-on part good e = record {
 
 -- each command's protocol draws, delivers and makes what its row says
 pub steps-counted : (n : ℕ) (x : Code) (b : ℕ)
-    → Counted (modulus n) (protocol n x b) (GivenAreWords (modulus n)) (AreWords (modulus n)) (row n x .drawn) (row n x .received)
+    → Counted (modulus n) (protocol n x b) (GivenAreWords n x) (AreWords (modulus n)) (row n x .drawn) (row n x .received)
 unfolding protocol
 steps-counted n Store b = counted-on (λ g. g .input) (λ g h. h .0) (claims .table n .store-row)
 steps-counted n Add b = counted-on both (λ g h. (h .1, h .2)) (claims .table n .sum-row)
@@ -75,7 +85,7 @@ bitwise : (n : ℕ) → BitsCombine n
 bitwise n = claims .combine .1 n
 
 -- the new shares combine to the register machine's value, from what the operands' shares combine to
-pub steps-combine : (n : ℕ) (x : Code) (b : ℕ) (g : Given) (t : Tapes) → GivenAreWords (modulus n) g → Contents (modulus n) (protocol n x b .draws) t
+pub steps-combine : (n : ℕ) (x : Code) (b : ℕ) (g : Given) (t : Tapes) → GivenAreWords n x g → Contents (modulus n) (protocol n x b .draws) t
     → combined (modulus n) (row n x .kind) (protocol n x b .result g t)
     ≡ value n x (combined (modulus n) (row n x .operands) (g .u)) (combined (modulus n) (row n x .operands) (g .v)) b (g .input)
 unfolding protocol

@@ -1,0 +1,39 @@
+-- What a run does that is public: told by the commands, the place record, the lent lengths and the kinds alone.
+use Prim.Native.Nat.{ℕ, suc}
+use mathlib.Core.Bool.{cond}
+use mathlib.Core.List.{List, [], _∷_}
+use lib.Dec.{eqb}
+use Rattle.protocols.specs.declared.place.Place.{Place}
+use Rattle.machine.specs.declared.code.Command.{Command}
+use Rattle.machine.specs.declared.lent.Sizes.{Sizes}
+use Rattle.machine.specs.declared.judge.Verdict.{Verdict}
+use Rattle.machine.specs.declared.judge.Verdict.the-variants.{Accepted, Refused}
+use Rattle.machine.specs.Table.{row, moved}
+use Rattle.machine.specs.Verdict.{number, verdict}
+use Rattle.machine.specs.Command.{put}
+use Rattle.machine.specs.Run.{Reply}
+
+-- the place record and the kinds after a command
+abbrev pub placeAfter : ℕ → Verdict → Place → Place
+placeAfter n (Accepted x) p = moved p (row n x)
+placeAfter n (Refused r) p = p
+
+abbrev pub kindsAfter : ℕ → Verdict → Place → List ℕ → List ℕ
+kindsAfter n (Accepted x) p k = put (row n x .values) k (p .handles) (row n x .kind)
+kindsAfter n (Refused r) p k = k
+
+-- the place record after a run, and the replies
+unfoldable pub placeAtEnd : ℕ → List Command → Place → Sizes → List ℕ → Place
+placeAtEnd n [] p z k = p
+placeAtEnd n (c ∷ cs) p z k = let v = verdict n c p z k in placeAtEnd n cs (placeAfter n v p) z (kindsAfter n v p k)
+
+unfoldable pub repliesTo : ℕ → List Command → Place → Sizes → List ℕ → List Reply
+repliesTo n [] p z k = []
+repliesTo n (c ∷ cs) p z k =
+    let v = verdict n c p z k in
+    record { number = number v; place = placeAfter n v p } ∷ repliesTo n cs (placeAfter n v p) z (kindsAfter n v p k)
+
+-- how many commands are tried up to the first refused one, that one included
+unfoldable pub tried : ℕ → List Command → Place → Sizes → List ℕ → ℕ
+tried n [] p z k = 0
+tried n (c ∷ cs) p z k = let v = verdict n c p z k in suc (cond (eqb (number v) 0) (tried n cs (placeAfter n v p) z (kindsAfter n v p k)) 0)

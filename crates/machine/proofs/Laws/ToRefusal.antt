@@ -1,0 +1,54 @@
+-- A run that stops at the first refused command is the run of the commands up to it.
+use Prim.Native.Nat.{ℕ, zero, suc}
+use mathlib.Core.Path.{_≡_, refl, ap, ap₂, _∙_}
+use mathlib.Core.Bool.{Bool, true, false, cond}
+use mathlib.Core.List.{List, [], _∷_}
+use native.Mathlib.Omega.{arith}
+use borrow.Author.Tests.{eq-eqb, ne-eqb}
+use lib.Dec.{eqb}
+use Rattle.protocols.specs.declared.place.Place.{Place}
+use Rattle.machine.specs.declared.code.Command.{Command}
+use Rattle.machine.specs.Lent.{Lent}
+use Rattle.machine.specs.Command.{Outcome, command}
+use Rattle.machine.specs.Run.{Ran, ran, before, run, runToRefusal, numbers}
+use Rattle.machine.specs.Claims.{ToRefusal, all-done, stopped}
+
+-- the first command, with the number w
+module _ (n : ℕ) (c : Command) (cs : List Command) (p : Place) (l : Lent) where
+  abbrev first : Outcome
+  first = command n c p l
+
+  abbrev rest : Ran
+  rest = runToRefusal n cs (first .answer .place) (first .lent)
+
+  abbrev alone : Ran
+  alone = before first (ran [] (first .answer .place) (first .lent))
+
+  run-by : (b : Bool) → eqb (first .answer .number) 0 ≡ b → runToRefusal n (c ∷ cs) p l ≡ cond b (before first rest) alone
+  unfolding runToRefusal
+  run-by b e = ap (λ (d : Bool). cond d (before first rest) alone) e
+
+  goes-on : first .answer .number ≡ 0 → runToRefusal n (c ∷ cs) p l ≡ before first rest
+  goes-on e = run-by true (eq-eqb (first .answer .number) 0 e)
+
+  stops : (w : ℕ) → first .answer .number ≡ suc w → runToRefusal n (c ∷ cs) p l ≡ alone
+  stops w e = run-by false (ne-eqb (first .answer .number) 0 (λ f. omega (arith, e, f)))
+
+  numbers-before : (w : ℕ) → first .answer .number ≡ w → (r : Ran) (k : List ℕ) → numbers r ≡ k → numbers (before first r) ≡ w ∷ k
+  numbers-before w e r k f = ap₂ (λ (v : ℕ) (t : List ℕ). v ∷ t) e f
+
+  after-first : (w : ℕ) → first .answer .number ≡ w → ToRefusal n cs (first .answer .place) (first .lent) → ToRefusal n (c ∷ cs) p l
+  unfolding run
+  after-first zero e (all-done same zeros) =
+      all-done (goes-on e ∙ ap (before first) same) (numbers-before 0 e (run n cs (first .answer .place) (first .lent)) _ zeros)
+  after-first zero e (stopped k r above within same zeros) =
+      stopped (suc k) r above (omega (arith, within)) (goes-on e ∙ ap (before first) same) (ap numbers (goes-on e) ∙ numbers-before 0 e rest _ zeros)
+  after-first (suc w) e t =
+      stopped zero (suc w) (omega arith) (omega arith) (stops w e)
+      (ap numbers (stops w e) ∙ numbers-before (suc w) e (ran [] (first .answer .place) (first .lent)) [] refl)
+
+pub to-refusal : (n : ℕ) (cs : List Command) (p : Place) (l : Lent) → ToRefusal n cs p l
+unfolding run runToRefusal
+to-refusal n [] p l = all-done refl refl
+to-refusal n (c ∷ cs) p l =
+    let o = command n c p l in after-first n c cs p l (o .answer .number) refl (to-refusal n cs (o .answer .place) (o .lent))
