@@ -12,11 +12,12 @@ which numbers it is there for, and is held to that. Beside the shares the refere
 the shares to its words.
 """
 
+import functools
 import pathlib
 import sys
 
 sys.dont_write_bytecode = True
-from protocol_vectors import COMMANDS, MINERS, RING, Run, words_from
+from protocol_vectors import COMMANDS, MINERS, RING, WIDTH, Run, words_from
 
 CRATE = pathlib.Path(__file__).resolve().parent.parent / "crates" / "commands"
 ROOM, LARGEST = 1024, 400000  # what the program holds: words in a list, or in inputs and tapes together; bytes of text
@@ -52,9 +53,11 @@ PLAIN = {
     8: lambda a, b, field, given: a,
     9: lambda a, b, field, given: a >> field & 1,
     10: lambda a, b, field, given: int(a == b),
-    12: lambda a, b, field, given: (a - b) % RING >> 31,
+    12: lambda a, b, field, given: (a - b) % WIDTH.ring >> WIDTH.bits - 1,
 }
 GIVING = [code for code in ROWS if code in PLAIN]
+# What each round adds to the counts of bits, equal and below. At 32 bits they have five rounds.
+ROUND = {8: ((4, 4, 4, 0), (0, 2, 2, 2)), 10: ((2, 2, 2, 0), (0, 1, 1, 1)), 12: ((4, 4, 4, 0), (0, 2, 2, 2))}
 INPUTS, TAPES = "inputs", ("provider", "tape1", "tape2", "tape3")
 LISTS = ("received1", "received2", "received3", "controller")
 TABLES = ("share1", "share2", "share3", "kinds")
@@ -62,12 +65,22 @@ HANDLES, KINDS, READ = "handles", "kinds", (INPUTS, *TAPES)
 PLACES = (HANDLES, INPUTS, *TAPES, *LISTS)  # the place record, in the paper's order
 
 
+@functools.cache
+def row(code, rounds):
+    """The table's row at words of 2^rounds bits: less what the rounds short of five would add."""
+    *fixed, received, drawn = ROWS[code]
+    added = ROUND.get(code, (NONE, NONE))
+    return *fixed, *(tuple(n - (5 - rounds) * m for n, m in zip(*both)) for both in zip((received, drawn), added))
+
+
 def combined(kind, shares):
-    return shares[0] ^ shares[1] ^ shares[2] if kind == 2 else sum(shares) % RING
+    return shares[0] ^ shares[1] ^ shares[2] if kind == 2 else sum(shares) % WIDTH.ring
 
 
 class Machine:
     """The lent lists, the place record and the registers."""
+
+    protocols = Run  # blindness_counts.py has some with a fault in them
 
     def __init__(self, lists, place):
         self.lists, self.place = {name: list(words) for name, words in lists.items()}, dict(place)
@@ -93,7 +106,7 @@ class Machine:
         numbers = {4} if self.lent_badly() else set()
         if code not in ROWS:
             return numbers | {5}
-        _, form_a, form_b, kind, received, drawn = ROWS[code]
+        _, form_a, form_b, kind, received, drawn = row(code, WIDTH.rounds)
         fields = ((form_a, a), (form_b, b))
         handles = [(1 if form == VALUE else 2, word) for form, word in fields if form in (VALUE, BITS)]
         known = dict(enumerate(self.lists[KINDS][: self.place[HANDLES]], 1))
@@ -101,7 +114,7 @@ class Machine:
             6: any(form == UNUSED and word != 0 for form, word in fields),
             7: any(not self.filled(handle) for _, handle in handles),
             8: any(known.get(handle, due) != due for due, handle in handles),
-            9: any(form == POSITION and word > 31 for form, word in fields),
+            9: any(form == POSITION and word >= WIDTH.bits for form, word in fields),
             10: kind > 0 and any(len(self.lists[name]) <= self.place[HANDLES] for name in TABLES[:3]),
             11: code == 1 and len(self.lists[INPUTS]) <= self.place[INPUTS],
             12: self.short(TAPES, drawn),
@@ -117,10 +130,10 @@ class Machine:
 
     def accept(self, code, a, b):
         """Does an accepted command, and answers the opened word."""
-        name, form_a, form_b, kind, received, drawn = ROWS[code]
+        name, form_a, form_b, kind, received, drawn = row(code, WIDTH.rounds)
         (u, word_a), (v, word_b) = self.operand(form_a, a), self.operand(form_b, b)
         given = self.lists[INPUTS][self.place[INPUTS]] if code == 1 else 0
-        run = Run([self.lists[tape] for tape in TAPES], [self.place[tape] for tape in TAPES])
+        run = self.protocols([self.lists[tape] for tape in TAPES], [self.place[tape] for tape in TAPES])
         shares = list(COMMANDS[name][1](run, u, v, given if code == 1 else b).values())
         assert run.drawn == [self.place[tape] + n for tape, n in zip(TAPES, drawn)]
         assert [len(words) for words in run.received.values()] == list(received)
@@ -129,9 +142,9 @@ class Machine:
             self.write(name, self.place[name], words)
             self.place[name] += len(words)
         if code == 11:
-            assert sum(shares) % RING == word_a
+            assert sum(shares) % WIDTH.ring == word_a
             return word_a
-        self.registers.append(PLAIN[code](word_a, word_b, b, given) % RING)
+        self.registers.append(PLAIN[code](word_a, word_b, b, given) % WIDTH.ring)
         assert combined(kind, shares) == self.registers[-1]
         for name, word in zip(TABLES, (*shares, kind)):
             self.write(name, self.place[HANDLES], [word])

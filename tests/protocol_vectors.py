@@ -10,15 +10,26 @@ A protocol moves the drawn counts of the place record alone: commands, which sta
 A tape with too few words left is number 12: shares 0, 0, 0, the place as it was and no words. Else the number is 0.
 """
 
+from types import SimpleNamespace
+
 RING = 2**32
+WIDTH = SimpleNamespace()  # of the words in the protocols: rounds of bits and equal, bits of a word, ring 2^bits
 MINERS, NEXT, PREVIOUS = (1, 2, 3), {1: 2, 2: 3, 3: 1}, {1: 3, 2: 1, 3: 2}
 PROVIDER, CONTROLLER = 0, 4  # the provider has a tape, the controller a received list, each miner both
 TAPES, LISTS = ("provider", "miner 1", "miner 2", "miner 3", "no tape"), ("miner 1", "miner 2", "miner 3", "controller")
 
 
+def set_width(rounds):
+    """Words of 2^rounds bits. The papers' have 2^5; blindness_counts.py, which goes through all words, takes smaller ones."""
+    WIDTH.rounds, WIDTH.bits, WIDTH.ring = rounds, 2**rounds, 2 ** 2**rounds
+
+
+set_width(5)
+
+
 def each(share):
     """The shares that a rule gives to miners 1 to 3."""
-    return {i: share(i) % RING for i in MINERS}
+    return {i: share(i) % WIDTH.ring for i in MINERS}
 
 
 def fresh(s, r):
@@ -32,8 +43,8 @@ def bit_of(word, j):
 
 def and_(a, j, b, k):
     """000, algorithm 4, line 22: shares of the 'and' of position j of a and position k of b."""
-    x, y = each(lambda i: bit_of(a[i], j)), each(lambda i: bit_of(b[i], k))
-    return each(lambda i: (x[i] & y[i]) ^ (x[i] & y[PREVIOUS[i]]) ^ (x[PREVIOUS[i]] & y[i]))
+    x, y = {i: bit_of(a[i], j) for i in MINERS}, {i: bit_of(b[i], k) for i in MINERS}
+    return {i: (x[i] & y[i]) ^ (x[i] & y[PREVIOUS[i]]) ^ (x[PREVIOUS[i]] & y[i]) for i in MINERS}
 
 
 def put(a, j, new):
@@ -65,7 +76,7 @@ class Run:
 
     def store(self, value):
         s1, s2 = self.draw(PROVIDER), self.draw(PROVIDER)
-        shares = {1: s1, 2: s2, 3: (value - s1 - s2) % RING}
+        shares = {1: s1, 2: s2, 3: (value - s1 - s2) % WIDTH.ring}
         for i in MINERS:
             self.send(i, shares[i])
         return shares
@@ -87,13 +98,13 @@ class Run:
         """000, algorithm 3, on bit j of the shares."""
         u = each(lambda i: bit_of(shares[i], j))
         b, m12, b12 = self.draw(1) % 2, self.draw(1), self.draw(1) % 2
-        m13, b13 = ((b ^ u[1]) - m12) % RING, b ^ b12
+        m13, b13 = ((b ^ u[1]) - m12) % WIDTH.ring, b ^ b12
         self.send(2, m12, b12)
         self.send(3, m13, b13)
         s23, s32 = b12 ^ u[2], b13 ^ u[3]
         self.send(3, s23)
         self.send(2, s32)
-        return {1: 0, 2: (1 - m12) % RING, 3: -m13 % RING} if s23 ^ s32 == 1 else {1: 0, 2: m12, 3: m13}
+        return {1: 0, 2: (1 - m12) % WIDTH.ring, 3: -m13 % WIDTH.ring} if s23 ^ s32 == 1 else {1: 0, 2: m12, 3: m13}
 
     def masked(self, shared, masks):
         """000, algorithm 4, lines 14 to 17: each shared word with own and previous masks, sent on; then new masks."""
@@ -105,50 +116,53 @@ class Run:
     def bits(self, u):
         """000, algorithm 4, lines 1 to 27."""
         r, r2, bar2 = self.draw(1), self.draw(1), self.draw(1)
-        r3, bar3 = (u[1] - r - r2) % RING, r ^ bar2
+        r3, bar3 = (u[1] - r - r2) % WIDTH.ring, r ^ bar2
         self.send(2, r2, bar2)
         self.send(3, r3, bar3)
         q, t = self.masks(2)
-        v2, v3 = (u[2] + r2) % RING, (u[3] + r3) % RING
+        v2, v3 = (u[2] + r2) % WIDTH.ring, (u[3] + r3) % WIDTH.ring
         self.send(3, v2)
         self.send(2, v3)
-        v = (v2 + v3) % RING
+        v = (v2 + v3) % WIDTH.ring
         p, s = {1: 0, 2: v ^ bar2, 3: bar3}, {1: 0, 2: v & bar2, 3: v & bar3}
-        for k in range(5):
+        for k in range(WIDTH.rounds):
             (p, s), (q, t) = self.masked((p, s), (q, t))
             for l in range(2**k):
-                for m in range(32 // 2 ** (k + 1)):
+                for m in range(WIDTH.bits // 2 ** (k + 1)):
                     j, low = 2**k + l + 2 ** (k + 1) * m, 2**k + 2 ** (k + 1) * m - 1
                     carry = and_(p, j, s, low)
                     put(s, j, each(lambda i: bit_of(s[i], j) ^ carry[i]))
                     put(p, j, and_(p, j, p, low))
         w = {1: 0, 2: v ^ bar2, 3: bar3}
-        for j in range(1, 32):
+        for j in range(1, WIDTH.bits):
             put(w, j, each(lambda i: bit_of(w[i], j) ^ bit_of(s[i], j - 1)))
         return w
 
     def equal(self, u, v):
         """000, algorithm 5."""
         r2 = self.draw(1)
-        r3 = (u[1] - v[1] - r2) % RING
+        r3 = (u[1] - v[1] - r2) % WIDTH.ring
         self.send(2, r2)
         self.send(3, r3)
         [q] = self.masks(1)
-        p = {1: RING - 1, 2: (u[2] - v[2] + r2) % RING, 3: -(u[3] - v[3] + r3) % RING}
-        for k in range(5):
+        p = {1: WIDTH.ring - 1, 2: (u[2] - v[2] + r2) % WIDTH.ring, 3: -(u[3] - v[3] + r3) % WIDTH.ring}
+        for k in range(WIDTH.rounds):
             [p], [q] = self.masked([p], [q])
-            for m in range(32 // 2 ** (k + 1)):
+            for m in range(WIDTH.bits // 2 ** (k + 1)):
                 put(p, 2 ** (k + 1) * m, and_(p, 2 ** (k + 1) * m, p, 2 ** (k + 1) * m + 2**k))
         return self.bit(p, 0)
 
+    def below(self, u, v):
+        return self.bit(self.bits(each(lambda i: u[i] - v[i])), WIDTH.bits - 1)
+
 
 # Document 01's table: operands (u and v are shares, w an input, a constant or a position), protocol, words received by
-# miners 1 to 3 and the controller, words drawn by the provider and miners 1 to 3.
+# miners 1 to 3 and the controller, words drawn by the provider and miners 1 to 3, both at 32 bits.
 COMMANDS = {
     "store": ("w", lambda run, u, v, w: run.store(w), [1, 1, 1, 0], [2, 0, 0, 0]),
     "add": ("uv", lambda run, u, v, w: each(lambda i: u[i] + v[i]), [0, 0, 0, 0], [0, 0, 0, 0]),
     "subtract": ("uv", lambda run, u, v, w: each(lambda i: u[i] - v[i]), [0, 0, 0, 0], [0, 0, 0, 0]),
-    "add constant": ("uw", lambda run, u, v, w: {**u, 1: (u[1] + w) % RING}, [0, 0, 0, 0], [0, 0, 0, 0]),
+    "add constant": ("uw", lambda run, u, v, w: {**u, 1: (u[1] + w) % WIDTH.ring}, [0, 0, 0, 0], [0, 0, 0, 0]),
     "times constant": ("uw", lambda run, u, v, w: each(lambda i: u[i] * w), [0, 0, 0, 0], [0, 0, 0, 0]),
     "multiply": ("uv", lambda run, u, v, w: run.multiply(u, v), [4, 4, 4, 0], [0, 2, 2, 2]),
     "reshare": ("u", lambda run, u, v, w: fresh(u, *run.masks(1)), [1, 1, 1, 0], [0, 1, 1, 1]),
@@ -156,7 +170,7 @@ COMMANDS = {
     "bit": ("uw", lambda run, u, v, w: run.bit(u, w), [0, 3, 3, 0], [0, 3, 0, 0]),
     "equal": ("uv", lambda run, u, v, w: run.equal(u, v), [11, 15, 15, 0], [0, 10, 6, 6]),
     "open": ("u", lambda run, u, v, w: run.open(u), [1, 1, 1, 3], [0, 1, 1, 1]),
-    "below": ("uv", lambda run, u, v, w: run.bit(run.bits(each(lambda i: u[i] - v[i])), 31), [22, 28, 28, 0], [0, 18, 12, 12]),
+    "below": ("uv", lambda run, u, v, w: run.below(u, v), [22, 28, 28, 0], [0, 18, 12, 12]),
 }
 SMALL = [[], [*range(1, 19)], [*range(20, 32)], [*range(40, 52)]]
 # Document 01's cases, and Bit at the ends of a word and past it: protocol, operands, tapes, and the shares or value due.
