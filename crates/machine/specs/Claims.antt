@@ -189,6 +189,8 @@ pub record Claims : Type 1 where
   pub entry-2-throughout : (n : ℕ) (cs : List Command) (p : Place) (l : Lent) → AreWords (modulus n) p l → Throughout n cs p l
   pub entry-2-run : (n : ℕ) (cs : List Command) (p : Place) (l : Lent) → AreWords (modulus n) p l → RunAgrees n cs p l
   pub to-refusal : (n : ℕ) (cs : List Command) (p : Place) (l : Lent) → ToRefusal n cs p l
+  pub opened-to-refusal : (n : ℕ) (cs : List Command) (p : Place) (l : Lent) → AreWords (modulus n) p l
+      → openedWords cs (runToRefusal n cs p l .answers) ≡ leadsToRefusal n cs (sizes l) (l .inputs) (start n p l)
   pub entry-3 : (n : ℕ) → Entry3 n (modulus n)
   pub entry-3-at-32 : Entry3 5 (2 ^ 32)
   pub entry-3-to-refusal : (n : ℕ) → Entry3ToRefusal n (modulus n)

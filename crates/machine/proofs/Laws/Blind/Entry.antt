@@ -17,7 +17,7 @@ use Rattle.protocols.specs.Blind.{Observer, watching, controlling, Sees, Holds}
 use Rattle.machine.specs.declared.code.Command.{Command}
 use Rattle.machine.specs.declared.answer.Answer.{Answer}
 use Rattle.machine.specs.declared.lent.Sizes.{Sizes}
-use Rattle.machine.specs.Lent.{Tables, Lent, lent, table, tapeLengths, lengths, AreWords}
+use Rattle.machine.specs.Lent.{Tables, Lent, lent, table, tapeLengths, listLengths, lengths, AreWords}
 use Rattle.machine.specs.Registers.{Registers, registers, leads}
 use Rattle.machine.specs.Start.{upTo, start}
 use Rattle.machine.specs.Run.{Ran, run, empty, reply}
@@ -78,20 +78,18 @@ holds-own o one q = q
 holds-own o two q = q
 holds-own o three q = q
 
--- ---- two runs
+-- ---- what is lent at an empty place record
 
-module _ (n : ℕ) (cs : List Command) (s : Tables) (k : List ℕ) (r : Lists) (d : Drawn) where
+pub start-empty : (n : ℕ) (l : Lent) → start n empty l ≡ registers [] empty
+unfolding start upTo
+start-empty n l = refl
+
+module _ (n : ℕ) (s : Tables) (k : List ℕ) (r : Lists) (d : Drawn) where
   abbrev pub base : List ℕ → Lent
   base i = lent s k i (zeros d) r
 
   abbrev sized : List ℕ → Sizes
   sized i = lengths s k i d r
-
-  abbrev ran : List ℕ → Tapes → Ran
-  ran i t = run n cs empty (lent s k i t r)
-
-  abbrev leading : List ℕ → List ℕ
-  leading i = leads n cs (sized i) i (registers [] empty)
 
   words-from-empty : (i : List ℕ) (t : Tapes) → AllBelow (modulus n) i → ((p : Party) → AllBelow (modulus n) (tape p t))
       → AreWords (modulus n) empty (lent s k i t r)
@@ -119,42 +117,56 @@ module _ (n : ℕ) (cs : List Command) (s : Tables) (k : List ℕ) (r : Lists) (
       below Two = zeros-below (modulus n) (d .two) (pow-pos (width n))
       below Three = zeros-below (modulus n) (d .three) (pow-pos (width n))
 
-  pub start-empty : (l : Lent) → start n empty l ≡ registers [] empty
-  unfolding start upTo
-  start-empty l = refl
+  pub same-size : (x y : List ℕ) → length x ≡ length y → sized y ≡ sized x
+  same-size x y long = ap (λ (j : ℕ). record { one = length (s .one); two = length (s .two); three = length (s .three); kinds = length k; inputs = j; tapes = d; received = listLengths r }) (sym long)
+
+-- ---- two runs
+
+module _ (n : ℕ) (cs : List Command) (s : Tables) (k : List ℕ) (r : Lists) (d : Drawn) where
+  abbrev size : List ℕ → Sizes
+  size i = lengths s k i d r
+
+  abbrev lentWith : List ℕ → Lent
+  lentWith i = base n s k r d i
+
+  abbrev ran : List ℕ → Tapes → Ran
+  ran i t = run n cs empty (lent s k i t r)
+
+  abbrev leading : List ℕ → List ℕ
+  leading i = leads n cs (size i) i (registers [] empty)
 
   draws-all : (z : Sizes) → z .tapes ≡ d → runProtocol n cs empty z k .draws ≡ d
   draws-all z e =
       run-draws n cs empty z k
       ∙ (λ i. counts (sub-zero (z .tapes .provider) i) (sub-zero (z .tapes .one) i) (sub-zero (z .tapes .two) i) (sub-zero (z .tapes .three) i)) ∙ e
 
-  follows : (i : List ℕ) (z : Sizes) → sized i ≡ z → (t : Tapes) → Contents (modulus n) d t → Follows n cs empty z k (base i) t (ran i t)
+  follows : (i : List ℕ) (z : Sizes) → size i ≡ z → (t : Tapes) → Contents (modulus n) d t → Follows n cs empty z k (lentWith i) t (ran i t)
   follows i z e t h =
-      run-follows n cs empty z k (base i) t (ap (λ (y : Drawn). lengths s k i y r) (contents-long (modulus n) d t h) ∙ e) refl
+      run-follows n cs empty z k (lentWith i) t (ap (λ (y : Drawn). lengths s k i y r) (contents-long (modulus n) d t h) ∙ e) refl
 
   -- each command's opened word is told by the replies and by what the inputs lead to
   opened-by : (i : List ℕ) → AllBelow (modulus n) i → (t : Tapes) → Contents (modulus n) d t
       → map (λ (a : Answer). a .opened) (ran i t .answers) ≡ spread cs (map reply (ran i t .answers)) (leading i)
   opened-by i b t h =
-      let w = words-from-empty i t b (λ p. h p .below) in
+      let w = words-from-empty n s k r d i t b (λ p. h p .below) in
       let l = lent s k i t r in
       told-spread n cs empty l w
       ∙ ap (spread cs (map reply (ran i t .answers)))
-      (run-agrees n cs empty l w .same-opened ∙ ap₂ (λ (y : Drawn) (m : Registers). leads n cs (lengths s k i y r) i m) (contents-long (modulus n) d t h) (start-empty l))
+      (run-agrees n cs empty l w .same-opened ∙ ap₂ (λ (y : Drawn) (m : Registers). leads n cs (lengths s k i y r) i m) (contents-long (modulus n) d t h) (start-empty n l))
 
   module _ (x y : List ℕ) (long : length x ≡ length y) (bx : AllBelow (modulus n) x) (by : AllBelow (modulus n) y) where
     abbrev z : Sizes
-    z = sized x
+    z = size x
 
-    pub same-size : sized y ≡ z
-    same-size = ap (λ (j : ℕ). record { one = z .one; two = z .two; three = z .three; kinds = z .kinds; inputs = j; tapes = d; received = z .received }) (sym long)
+    sizes-same : size y ≡ z
+    sizes-same = same-size n s k r d x y long
 
     -- for every observer; one that sees the controller's list must be given inputs that lead to the same opened words
     module _ (o : Observer) (agree : Sees o controller → leading x ≡ leading y) where
-      alike : Alike n o cs empty z (base x) (base y)
+      alike : Alike n o cs empty z (lentWith x) (lentWith y)
       alike = record {
         seen = record { tables = λ i q. refl; lists = λ q e. refl };
-        leading = λ q. ap (leads n cs z x) (start-empty (base x)) ∙ agree q ∙ ap₂ (λ (u : Sizes) (m : Registers). leads n cs u y m) same-size (sym (start-empty (base y)));
+        leading = λ q. ap (leads n cs z x) (start-empty n (lentWith x)) ∙ agree q ∙ ap₂ (λ (u : Sizes) (m : Registers). leads n cs u y m) sizes-same (sym (start-empty n (lentWith y)));
       }
 
       -- the records that o has of the two runs
@@ -163,10 +175,10 @@ module _ (n : ℕ) (cs : List Command) (s : Tables) (k : List ℕ) (r : Lists) (
         as-controller : Sees o controller → controllerRecord (ran x t) ≡ controllerRecord (ran y t′)
 
       seen-records : (t t′ : Tapes) → Contents (modulus n) d t → Contents (modulus n) d t′
-          → Seen o (runProtocol n cs empty z k .result (base x) t) (runProtocol n cs empty z k .result (base y) t′) → SameOwn o t t′ → Records t t′
+          → Seen o (runProtocol n cs empty z k .result (lentWith x) t) (runProtocol n cs empty z k .result (lentWith y) t′) → SameOwn o t t′ → Records t t′
       seen-records t t′ h h′ seen own =
           let f = follows x z refl t h in
-          let g = follows y z same-size t′ h′ in
+          let g = follows y z sizes-same t′ h′ in
           let place = f .ends ∙ sym (g .ends) in
           let answers = f .answers ∙ sym (g .answers) in
           record {
@@ -183,8 +195,8 @@ module _ (n : ℕ) (cs : List Command) (s : Tables) (k : List ℕ) (r : Lists) (
       records-pair =
           let w = runProtocol n cs empty z k in
           weaken (λ t t′ h h′ s. (seen-records t t′ h h′ (s .0) (s .1), s .1))
-          (subst (λ (e : Drawn). Pairing (Contents (modulus n) e) (λ t t′. Seen o (w .result (base x) t) (w .result (base y) t′) × SameOwn o t t′))
-          (draws-all z refl) (pairs (run-blind n o cs empty z k) (base x) (base y) (held x z refl bx) (held y z same-size by) alike))
+          (subst (λ (e : Drawn). Pairing (Contents (modulus n) e) (λ t t′. Seen o (w .result (lentWith x) t) (w .result (lentWith y) t′) × SameOwn o t t′))
+          (draws-all z refl) (pairs (run-blind n o cs empty z k) (lentWith x) (lentWith y) (held n s k r d x z refl bx) (held n s k r d y z sizes-same by) alike))
 
 pub entry-3 : (n : ℕ) → Entry3 n (modulus n)
 entry-3 n cs s k r d x y long bx by = record {

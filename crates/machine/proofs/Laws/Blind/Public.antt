@@ -1,5 +1,6 @@
 -- What a run does that is public: told by the commands, the place record, the lent lengths and the kinds alone.
 use Prim.Native.Nat.{ℕ, suc}
+use mathlib.Core.Path.{_≡_, refl, subst₂}
 use mathlib.Core.Bool.{cond}
 use mathlib.Core.List.{List, [], _∷_}
 use lib.Dec.{eqb}
@@ -9,9 +10,11 @@ use Rattle.machine.specs.declared.lent.Sizes.{Sizes}
 use Rattle.machine.specs.declared.judge.Verdict.{Verdict}
 use Rattle.machine.specs.declared.judge.Verdict.the-variants.{Accepted, Refused}
 use Rattle.machine.specs.Table.{row, moved}
+use Rattle.machine.specs.Lent.{Lent, sizes}
 use Rattle.machine.specs.Verdict.{number, verdict}
-use Rattle.machine.specs.Command.{put}
+use Rattle.machine.specs.Command.{Outcome, put, accepted, decided, command}
 use Rattle.machine.specs.Run.{Reply}
+use Rattle.machine.proofs.Laws.Agree.{draws, sizes-left}
 
 -- the place record and the kinds after a command
 abbrev pub placeAfter : ℕ → Verdict → Place → Place
@@ -37,3 +40,23 @@ repliesTo n (c ∷ cs) p z k =
 unfoldable pub tried : ℕ → List Command → Place → Sizes → List ℕ → ℕ
 tried n [] p z k = 0
 tried n (c ∷ cs) p z k = let v = verdict n c p z k in suc (cond (eqb (number v) 0) (tried n cs (placeAfter n v p) z (kindsAfter n v p k)) 0)
+
+-- ---- a command answers and leaves just that
+
+-- the lengths z and the kinds k are lent
+pub record Public (n : ℕ) (p : Place) (z : Sizes) (k : List ℕ) (v : Verdict) (o : Outcome) : Type 0 where
+  pub same-number : o .answer .number ≡ number v
+  pub same-place : o .answer .place ≡ placeAfter n v p
+  pub same-sizes : sizes (o .lent) ≡ z
+  pub same-kinds : o .lent .kinds ≡ kindsAfter n v p k
+
+module _ (n : ℕ) (c : Command) (p : Place) (l : Lent) where
+  public-by : (v : Verdict) → Public n p (sizes l) (l .kinds) v (decided n v c p l)
+  unfolding accepted
+  public-by (Accepted x) = record { same-number = refl; same-place = refl; same-sizes = sizes-left n c p l x (draws n c p l x); same-kinds = refl }
+  public-by (Refused r) = record { same-number = refl; same-place = refl; same-sizes = refl; same-kinds = refl }
+
+  pub command-public : (z : Sizes) (k : List ℕ) → sizes l ≡ z → l .kinds ≡ k → Public n p z k (verdict n c p z k) (command n c p l)
+  unfolding command
+  command-public z k e f =
+      subst₂ (λ (y : Sizes) (j : List ℕ). Public n p y j (verdict n c p y j) (command n c p l)) e f (public-by (verdict n c p (sizes l) (l .kinds)))

@@ -13,40 +13,21 @@ use Rattle.protocols.specs.Contents.{Below as AllBelow, Contents}
 use Rattle.machine.specs.declared.code.Command.{Command}
 use Rattle.machine.specs.declared.lent.Sizes.{Sizes}
 use Rattle.machine.specs.declared.judge.Verdict.{Verdict}
-use Rattle.machine.specs.declared.judge.Verdict.the-variants.{Accepted, Refused}
 use Rattle.machine.specs.Lent.{Tables, Lent, lent, lengths, sizes, AreWords}
 use Rattle.machine.specs.Verdict.{number, verdict}
-use Rattle.machine.specs.Command.{Outcome, accepted, decided, command}
+use Rattle.machine.specs.Command.{Outcome, command}
 use Rattle.machine.specs.Registers.{Registers, registers, judge, step, shown, leads, leadsToRefusal}
 use Rattle.machine.specs.Start.{start}
 use Rattle.machine.specs.Run.{Ran, ran, before, run, runToRefusal, empty}
 use Rattle.machine.specs.Records.{minerRecord, controllerRecord}
 use Rattle.machine.specs.Claims.{Entry3ToRefusal}
 use Rattle.machine.proofs.Laws.Judge.{judge-same}
-use Rattle.machine.proofs.Laws.Agree.{entry-2, draws, sizes-left}
+use Rattle.machine.proofs.Laws.Agree.{entry-2}
 use Rattle.machine.proofs.Laws.RunAgree.{goes-on}
-use Rattle.machine.proofs.Laws.Blind.Public.{placeAfter, kindsAfter, tried}
+use Rattle.machine.proofs.Laws.Blind.Public.{placeAfter, kindsAfter, tried, command-public}
 use Rattle.machine.proofs.Laws.Blind.Run.{Held}
 use Rattle.machine.proofs.Laws.Blind.Pairs.{weaken}
 use Rattle.machine.proofs.Laws.Blind.Entry.{contents-long, base, held, start-empty, same-size, entry-3}
-
--- ---- what is public after a command
-
-record Public (n : ℕ) (p : Place) (l : Lent) (v : Verdict) (o : Outcome) : Type 0 where
-  same-number : o .answer .number ≡ number v
-  same-place : o .answer .place ≡ placeAfter n v p
-  same-sizes : sizes (o .lent) ≡ sizes l
-  same-kinds : o .lent .kinds ≡ kindsAfter n v p (l .kinds)
-
-module _ (n : ℕ) (c : Command) (p : Place) (l : Lent) where
-  public-by : (v : Verdict) → Public n p l v (decided n v c p l)
-  unfolding accepted
-  public-by (Accepted x) = record { same-number = refl; same-place = refl; same-sizes = sizes-left n c p l x (draws n c p l x); same-kinds = refl }
-  public-by (Refused r) = record { same-number = refl; same-place = refl; same-sizes = refl; same-kinds = refl }
-
-  public : Public n p l (verdict n c p (sizes l) (l .kinds)) (command n c p l)
-  unfolding command
-  public = public-by (verdict n c p (sizes l) (l .kinds))
 
 -- ---- the run, and what the inputs lead to
 
@@ -56,7 +37,7 @@ run-to n [] p l = refl
 run-to n (c ∷ cs) p l =
     let o = command n c p l in
     let v = verdict n c p (sizes l) (l .kinds) in
-    let u = public n c p l in
+    let u = command-public n c p l (sizes l) (l .kinds) refl refl in
     let q = o .answer .place in
     let m = tried n cs (placeAfter n v p) (sizes l) (kindsAfter n v p (l .kinds)) in
     let goes : runToRefusal n cs q (o .lent) ≡ run n (take m cs) q (o .lent) =
@@ -76,7 +57,7 @@ leads-to n [] p l w = refl
 leads-to n (c ∷ cs) p l w =
     let o = command n c p l in
     let v = verdict n c p (sizes l) (l .kinds) in
-    let u = public n c p l in
+    let u = command-public n c p l (sizes l) (l .kinds) refl refl in
     let q = o .answer .place in
     let m = start n p l in
     let k = tried n cs (placeAfter n v p) (sizes l) (kindsAfter n v p (l .kinds)) in
@@ -110,17 +91,17 @@ module _ (n : ℕ) (cs : List Command) (s : Tables) (k : List ℕ) (r : Lists) (
   leading-as : (i : List ℕ) (z : Sizes) → lengths s k i d r ≡ z → AllBelow (modulus n) i
       → leadsToRefusal n cs (lengths s k i d r) i (registers [] empty) ≡ leads n (public-commands z) (lengths s k i d r) i (registers [] empty)
   leading-as i z e b =
-      let l = base n cs s k r d i in
-      let h : Held n empty (lengths s k i d r) k l = held n cs s k r d i (lengths s k i d r) refl b in
-      sym (λ j. leadsToRefusal n cs (h .sized j) i (start-empty n cs s k r d l j))
+      let l = base n s k r d i in
+      let h : Held n empty (lengths s k i d r) k l = held n s k r d i (lengths s k i d r) refl b in
+      sym (λ j. leadsToRefusal n cs (h .sized j) i (start-empty n l j))
       ∙ leads-to n cs empty l (h .words)
-      ∙ (λ j. leads n (public-commands (h .sized j)) (h .sized j) i (start-empty n cs s k r d l j))
+      ∙ (λ j. leads n (public-commands (h .sized j)) (h .sized j) i (start-empty n l j))
       ∙ ap (λ (y : Sizes). leads n (public-commands y) (lengths s k i d r) i (registers [] empty)) e
 
 pub entry-3-to-refusal : (n : ℕ) → Entry3ToRefusal n (modulus n)
 entry-3-to-refusal n cs s k r d x y long bx by =
     let z = lengths s k x d r in
-    let e : lengths s k y d r ≡ z = same-size n cs s k r d x y long bx by in
+    let e : lengths s k y d r ≡ z = same-size n s k r d x y long in
     let B = entry-3 n (take (tried n cs empty z k) cs) s k r d x y long bx by in
     record {
       miner = λ i own. weaken

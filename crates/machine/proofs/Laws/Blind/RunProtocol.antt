@@ -19,12 +19,12 @@ use Rattle.machine.specs.Table.{row}
 use Rattle.machine.specs.Lent.{Lent, lent, sizes}
 use Rattle.machine.specs.Verdict.{number, verdict}
 use Rattle.machine.specs.Steps.{protocol}
-use Rattle.machine.specs.Command.{Outcome, accepted, decided, command, put}
+use Rattle.machine.specs.Command.{accepted, decided, command}
 use Rattle.machine.specs.Run.{Ran, run, Reply, reply}
 use Rattle.machine.proofs.Laws.Accepted.{all-passed, has-room}
 use Rattle.machine.proofs.Laws.Steps.{steps-counted}
-use Rattle.machine.proofs.Laws.Agree.{leaves, sends, sizes-left}
-use Rattle.machine.proofs.Laws.Blind.Public.{placeAfter, kindsAfter, placeAtEnd, repliesTo}
+use Rattle.machine.proofs.Laws.Agree.{leaves, sends}
+use Rattle.machine.proofs.Laws.Blind.Public.{placeAfter, kindsAfter, placeAtEnd, repliesTo, command-public}
 
 -- ---- the protocol
 
@@ -85,17 +85,15 @@ module _ (n : ℕ) (c : Command) (p : Place) (l : Lent) (t : Tapes) where
   abbrev held : Verdict → Lent
   held v = stepProtocol n v c p .result l (next v)
 
-  record Serves (v : Verdict) (o : Outcome) : Type 0 where
-    answers : reply (o .answer) ≡ record { number = number v; place = placeAfter n v p }
-    leaves-lent : o .lent ≡ withTapes t (held v)
-
-  serves : (v : Verdict) → Serves v (decided n v c p (withTapes t l))
+  leaves-by : (v : Verdict) → decided n v c p (withTapes t l) .lent ≡ withTapes t (held v)
   unfolding accepted
-  serves (Accepted x) = record {
-    answers = refl;
-    leaves-lent = ap (λ (b : Tapes). withTapes t (leaves n c p l x b)) (block-cut (protocol n x (c .b) .draws) p t);
-  }
-  serves (Refused r) = record { answers = refl; leaves-lent = refl }
+  leaves-by (Accepted x) = ap (λ (b : Tapes). withTapes t (leaves n c p l x b)) (block-cut (protocol n x (c .b) .draws) p t)
+  leaves-by (Refused r) = refl
+
+  command-leaves : (z : Sizes) (k : List ℕ) → sizes (withTapes t l) ≡ z → l .kinds ≡ k
+      → command n c p (withTapes t l) .lent ≡ withTapes t (held (verdict n c p z k))
+  unfolding command
+  command-leaves z k e f = (λ i. decided n (verdict n c p (e i) (f i)) c p (withTapes t l) .lent) ∙ leaves-by (verdict n c p z k)
 
   drawn-after : (v : Verdict) → plus (p .drawn) (stepProtocol n v c p .draws) ≡ placeAfter n v p .drawn
   drawn-after (Accepted x) = ap (plus (p .drawn)) (steps-counted n x (c .b) .drawn)
@@ -105,14 +103,6 @@ module _ (n : ℕ) (c : Command) (p : Place) (l : Lent) (t : Tapes) where
   rest-after : (v : Verdict) → rest (stepProtocol n v c p .draws) (rest (p .drawn) t) ≡ rest (placeAfter n v p .drawn) t
   rest-after v = rest-rest (stepProtocol n v c p .draws) (p .drawn) t ∙ ap (λ (d : Drawn). rest d t) (drawn-after v)
 
-  sizes-after : (v : Verdict) → sizes (withTapes t (held v)) ≡ sizes (withTapes t l)
-  sizes-after (Accepted x) = sizes-left n c p (withTapes t l) x (next (Accepted x))
-  sizes-after (Refused r) = refl
-
-  kinds-after : (v : Verdict) (k : List ℕ) → l .kinds ≡ k → held v .kinds ≡ kindsAfter n v p k
-  kinds-after (Accepted x) k e = ap (λ (j : List ℕ). put (row n x .values) j (p .handles) (row n x .kind)) e
-  kinds-after (Refused r) k e = e
-
 pub record Follows (n : ℕ) (cs : List Command) (p : Place) (z : Sizes) (k : List ℕ) (l : Lent) (t : Tapes) (r : Ran) : Type 0 where
   pub leaves-lent : r .lent ≡ withTapes t (runProtocol n cs p z k .result l (rest (p .drawn) t))
   pub ends : r .place ≡ placeAtEnd n cs p z k
@@ -120,25 +110,24 @@ pub record Follows (n : ℕ) (cs : List Command) (p : Place) (z : Sizes) (k : Li
 
 pub run-follows : (n : ℕ) (cs : List Command) (p : Place) (z : Sizes) (k : List ℕ) (l : Lent) (t : Tapes)
     → sizes (withTapes t l) ≡ z → l .kinds ≡ k → Follows n cs p z k l t (run n cs p (withTapes t l))
-unfolding run runProtocol placeAtEnd repliesTo command
+unfolding run runProtocol placeAtEnd repliesTo
 run-follows n [] p z k l t e f = record { leaves-lent = refl; ends = refl; answers = refl }
 run-follows n (c ∷ cs) p z k l t e f =
     let v = verdict n c p z k in
     let q = placeAfter n v p in
     let j = kindsAfter n v p k in
     let o = command n c p (withTapes t l) in
+    let u = command-public n c p (withTapes t l) z k e f in
     let l₁ = held n c p l t v in
-    let said : o ≡ decided n v c p (withTapes t l) = λ i. decided n (verdict n c p (e i) (f i)) c p (withTapes t l) in
-    let s = serves n c p l t v in
-    let answer : reply (o .answer) ≡ record { number = number v; place = q } = ap (λ (a : Outcome). reply (a .answer)) said ∙ s .answers in
-    let goes : run n cs (o .answer .place) (o .lent) ≡ run n cs q (withTapes t l₁) = ap₂ (run n cs) (ap (λ (a : Reply). a .place) answer)
-    (ap (λ (a : Outcome). a .lent) said ∙ s .leaves-lent) in
-    let rest-follows = run-follows n cs q z j l₁ t (sizes-after n c p l t v ∙ e) (kinds-after n c p l t v k f) in
+    let left : o .lent ≡ withTapes t l₁ = command-leaves n c p l t z k e f in
+    let goes : run n cs (o .answer .place) (o .lent) ≡ run n cs q (withTapes t l₁) = ap₂ (run n cs) (u .same-place) left in
+    let rest-follows = run-follows n cs q z j l₁ t (ap sizes (sym left) ∙ u .same-sizes) (ap (λ (m : Lent). m .kinds) (sym left) ∙ u .same-kinds) in
     record {
       leaves-lent = ap (λ (r : Ran). r .lent) goes
           ∙ rest-follows .leaves-lent
           ∙ ap (λ (b : Tapes). withTapes t (runProtocol n cs q z j .result l₁ b)) (sym (rest-after n c p l t v))
           ∙ ap (withTapes t) (sym (then-result (stepProtocol n v c p) (runProtocol n cs q z j) l (rest (p .drawn) t)));
       ends = ap (λ (r : Ran). r .place) goes ∙ rest-follows .ends;
-      answers = ap₂ (λ (a : Reply) (r : List Reply). a ∷ r) answer (ap (λ (r : Ran). map reply (r .answers)) goes ∙ rest-follows .answers);
+      answers = ap₂ (λ (a : Reply) (r : List Reply). a ∷ r) (λ i. record { number = u .same-number i; place = u .same-place i })
+          (ap (λ (r : Ran). map reply (r .answers)) goes ∙ rest-follows .answers);
     }
