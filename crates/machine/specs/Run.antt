@@ -4,6 +4,7 @@ use mathlib.Core.Bool.{Bool, cond, _&&_}
 use mathlib.Core.List.{List, [], _∷_, _++_, map}
 use lib.Dec.{eqb}
 use Rattle.protocols.specs.declared.place.Place.{Place}
+use Rattle.protocols.specs.Shares.{shares, sumOf}
 use Rattle.protocols.specs.Place.{counts}
 use Rattle.protocols.specs.Counts.{received}
 use Rattle.machine.specs.declared.code.Command.{Command}
@@ -62,6 +63,13 @@ unfoldable pub openedWords : List Command → List Answer → List ℕ
 openedWords [] l = []
 openedWords (c ∷ cs) [] = []
 openedWords (c ∷ cs) (a ∷ l) = cond (isOpen c a) (a .opened ∷ []) [] ++ openedWords cs l
+
+-- the words that shares in threes give, in order: so an open hands them to the controller
+unfoldable pub sumsInThrees : ℕ → List ℕ → List ℕ
+sumsInThrees m [] = []
+sumsInThrees m (a ∷ []) = []
+sumsInThrees m (a ∷ b ∷ []) = []
+sumsInThrees m (a ∷ b ∷ c ∷ l) = sumOf m (shares a b c) ∷ sumsInThrees m l
 
 -- ---- the register machine on the same list
 

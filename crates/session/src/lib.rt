@@ -1,0 +1,6 @@
+// The session layer: a file's contents, the run of its commands, and the text that `pool` prints.
+pub mod answer;
+mod contents;
+mod run;
+pub mod session;
+mod words;
