@@ -11,6 +11,7 @@ pub mod Agree
 pub mod RunAgree
 pub mod ToRefusal
 pub mod OpenedWords
+pub mod ControllerWords
 pub mod Play
 pub mod Effect
 pub mod Blind

@@ -10,7 +10,7 @@ use Rattle.protocols.specs.declared.place.Place.{Place}
 use Rattle.protocols.specs.declared.shares.Shares.{Shares}
 use Rattle.protocols.specs.Word.{modulus}
 use Rattle.protocols.specs.Shares.{Miner, sumOf}
-use Rattle.protocols.specs.Place.{Tapes, tape, owner, counts, Lists, Receiver, list, inOrder, advance, block}
+use Rattle.protocols.specs.Place.{Tapes, tape, owner, counts, Lists, Receiver, controller, list, inOrder, advance, block}
 use Rattle.protocols.specs.Protocol.{done, perform}
 use Rattle.protocols.specs.Contents.{Below as AllBelow, Contents}
 use Rattle.protocols.specs.Counts.{received, due}
@@ -24,13 +24,13 @@ use Rattle.machine.specs.declared.row.Use.the-variants.{Unused, Handle, 
 use Rattle.machine.specs.declared.lent.Sizes.{Sizes}
 use Rattle.machine.specs.declared.judge.Verdict.the-variants.{Accepted}
 use Rattle.machine.specs.Table.{find, line, row}
-use Rattle.machine.specs.Lent.{Tables, Lent, lent, table, lengths, sizes, entry, sharesAt, Filled, AreWords}
+use Rattle.machine.specs.Lent.{Tables, Lent, lent, table, lengths, sizes, entry, sharesAt, Filled, receivedWords, AreWords}
 use Rattle.machine.specs.Verdict.{number, verdict}
 use Rattle.machine.specs.Steps.{protocol}
 use Rattle.machine.specs.Command.{Outcome, answer, outcome, given, command}
 use Rattle.machine.specs.Registers.{registers, named, judge, step, leads, leadsToRefusal}
 use Rattle.machine.specs.Start.{combined, start}
-use Rattle.machine.specs.Run.{Ran, run, runToRefusal, numbers, empty, reply, openedWords, registersAfter, replies}
+use Rattle.machine.specs.Run.{Ran, run, runToRefusal, numbers, empty, reply, openedWords, sumsInThrees, registersAfter, replies}
 use Rattle.machine.specs.Records.{minerRecord, controllerRecord, SameToMiner, SameToController}
 use Rattle.machine.specs.Pairing.{Pairing, OneToOne}
 use Rattle.machine.specs.Refusals.{Applies, Lowest}
@@ -145,6 +145,13 @@ pub data ToRefusal (n : ℕ) (cs : List Command) (p : Place) (l : Lent) : Type 0
   stopped : (k r : ℕ) → 0 < r → k < length cs → runToRefusal n cs p l ≡ run n (take (suc k) cs) p l
       → numbers (runToRefusal n cs p l) ≡ replicate k 0 ++ (r ∷ []) → ToRefusal n cs p l
 
+-- what the controller receives in a run adds up, in threes, to the words that its accepted opens answer, in order
+pub record AddsUp (m : ℕ) (cs : List Command) (p : Place) (l : Lent) (r : Ran) : Type 0 where
+  pub words : List ℕ
+  pub received : receivedWords (r .place) (r .lent) controller ≡ receivedWords p l controller ++ words
+  pub within : p .received .controller ≤ length (l .received .controller) → r .place .received .controller ≤ length (r .lent .received .controller)
+  pub add-up : openedWords cs (r .answers) ≡ sumsInThrees m words
+
 -- ---- 4. Entry 3: every record is blind to the inputs.
 
 -- For two input lists x and y, on tapes of the lengths d: `ran x t` is the run on the inputs x and the tapes t, `leading x` the opened
@@ -191,6 +198,7 @@ pub record Claims : Type 1 where
   pub to-refusal : (n : ℕ) (cs : List Command) (p : Place) (l : Lent) → ToRefusal n cs p l
   pub opened-to-refusal : (n : ℕ) (cs : List Command) (p : Place) (l : Lent) → AreWords (modulus n) p l
       → openedWords cs (runToRefusal n cs p l .answers) ≡ leadsToRefusal n cs (sizes l) (l .inputs) (start n p l)
+  pub controller-adds-up : (n : ℕ) (cs : List Command) (p : Place) (l : Lent) → AddsUp (modulus n) cs p l (runToRefusal n cs p l)
   pub entry-3 : (n : ℕ) → Entry3 n (modulus n)
   pub entry-3-at-32 : Entry3 5 (2 ^ 32)
   pub entry-3-to-refusal : (n : ℕ) → Entry3ToRefusal n (modulus n)

@@ -3,3 +3,5 @@ pub mod Words
 pub mod Contents
 pub mod Session
 pub mod Text
+pub mod Refusals
+pub mod Claims

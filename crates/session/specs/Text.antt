@@ -1,15 +1,17 @@
 -- The text that the program `pool` prints, in bytes. (01, 'The session sheet')
-use Prim.Native.Nat.{ℕ, zero, suc, _+_, _/_, _%_}
+use Prim.Native.Nat.{ℕ, zero, suc, _+_, _-_, _*_, _/_, _%_, _≤_}
 use mathlib.Core.Bool.{Bool, cond, _&&_}
 use mathlib.Core.List.{List, [], _∷_, _++_}
-use lib.ListN.{length, getD, drop}
+use lib.ListN.{length, getD, take, drop}
+use lib.Seq.{sets}
 use lib.Dec.{ltb, leb, eqb}
+use Rattle.protocols.specs.Word.{modulus}
 use Rattle.machine.specs.declared.code.Command.{Command}
 use Rattle.machine.specs.declared.answer.Answer.{Answer}
-use Rattle.machine.specs.Run.{isOpen}
+use Rattle.machine.specs.Run.{isOpen, sumsInThrees}
 use Rattle.session.specs.declared.answer.SessionAnswer.{SessionAnswer}
 use Rattle.session.specs.Words.{wordsOf}
-use Rattle.session.specs.Contents.{Sheet, sheetOf}
+use Rattle.session.specs.Contents.{Sheet, commandsOf, sheetOf}
 use Rattle.session.specs.Session.{State, Outcome, outcome, runOf, session}
 
 -- ---- numbers and lines
@@ -22,6 +24,11 @@ digits (suc k) n = cond (ltb n 10) ((48 + n) ∷ []) (digits k (n / 10) ++ ((48 
 -- 20 digits hold every number below 2 ^ 64
 abbrev pub decimal : ℕ → List ℕ
 decimal n = digits 20 n
+
+-- the number that digits spell, after those read before
+unfoldable pub valueOf : ℕ → List ℕ → ℕ
+valueOf n [] = n
+valueOf n (d ∷ l) = valueOf (10 * n + (d - 48)) l
 
 -- each number after a space
 unfoldable pub spaced : List ℕ → List ℕ
@@ -99,9 +106,33 @@ reported file s o = printed (textOf (sheetOf (wordsOf file)) s (o .answer)) (o .
 unfoldable pub pool : List ℕ → List ℕ → State → Printed
 pool file w s = cond (ltb 30768 (length file)) (printed (refusedLine 3) w s) (reported file s (session file w s))
 
--- ---- the same lines from words in order
+-- the text at the front of a lent buffer, with its length
+pub record Rendered : Type 0 where
+  pub length : ℕ
+  pub out : List ℕ
+  pub words : List ℕ
+  pub state : State
+
+abbrev pub rendered : ℕ → List ℕ → List ℕ → State → Rendered
+rendered n out w s = record { length = n; out = out; words = w; state = s }
+
+abbrev pub into : List ℕ → Printed → Rendered
+into out p = rendered (length (p .text)) (sets out 0 (p .text)) (p .words) (p .state)
+
+-- ---- as the code has it: from the answer, the words and the controller's received words that a session leaves
 
 -- a line for each open among accepted commands, with the words that they open, in order
 unfoldable pub linesWith : List Command → List ℕ → List ℕ
 linesWith [] w = []
 linesWith (c ∷ cs) w = cond (eqb (c .code) 11) (openLine (c .a) (getD w 0 0) ++ linesWith cs (drop 1 w)) (linesWith cs w)
+
+unfoldable pub textFrom : SessionAnswer → List ℕ → List ℕ → List ℕ
+textFrom a w shares =
+    cond (isEarly (a .number)) (refusedLine (a .number))
+    (linesWith (commandsOf (take (3 * a .done) (drop 12 w))) (sumsInThrees (modulus 5) (take (a .place .received .controller) shares)) ++ lastLine a)
+
+-- what is read of these is there
+pub record Readable (a : SessionAnswer) (w shares : List ℕ) : Type 0 where
+  pub within-limit : 3 * a .done ≤ 384
+  pub has-commands : 12 + 3 * a .done ≤ length w
+  pub has-shares : a .place .received .controller ≤ length shares

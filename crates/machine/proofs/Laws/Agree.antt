@@ -171,7 +171,7 @@ module _ (n : ℕ) (c : Command) (p : Place) (l : Lent) (x : Code) where
     fits = omega (arith, has-room a .handles, same one)
 
     -- the words sent stand behind those that each list held
-    appended : (b : Tapes) (r : Receiver) → Appended (list r (l .received)) (due r (p .received)) (list r (sends b)) (list r (leaves b .received))
+    pub appended : (b : Tapes) (r : Receiver) → Appended (list r (l .received)) (due r (p .received)) (list r (sends b)) (list r (leaves b .received))
     appended b r =
         list-withWords r (l .received) p (sends b)
         ∙ sets-appended (list r (l .received)) (due r (p .received)) (list r (sends b))
@@ -245,7 +245,7 @@ module _ (n : ℕ) (c : Command) (p : Place) (l : Lent) where
   abbrev decision : Verdict
   decision = verdict n c p (sizes l) (l .kinds)
 
-  has-passed : (x : Code) → decision ≡ Accepted x → Passed n x c p (sizes l) (l .kinds)
+  pub has-passed : (x : Code) → decision ≡ Accepted x → Passed n x c p (sizes l) (l .kinds)
   has-passed x = all-passed n x c p (sizes l) (l .kinds)
 
   command-accepts : (x : Code) → decision ≡ Accepted x → command n c p l ≡ accepted n x c p l
@@ -257,7 +257,7 @@ module _ (n : ℕ) (c : Command) (p : Place) (l : Lent) where
   number-decided (Accepted x) = refl
   number-decided (Refused r) = refl
 
-  code-opens : (x : Code) → decision ≡ Accepted x → eqb (c .code) 11 ≡ opens (row n x)
+  pub code-opens : (x : Code) → decision ≡ Accepted x → eqb (c .code) 11 ≡ opens (row n x)
   code-opens x e = opens-at-11 n (c .code) x (has-passed x e .known)
 
   accepts-open : (x : Code) → decision ≡ Accepted x → c .code ≡ 11 → decision ≡ Accepted Open

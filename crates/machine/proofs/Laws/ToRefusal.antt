@@ -60,12 +60,12 @@ to-refusal n (c ∷ cs) p l =
 
 -- ---- its opened words
 
-no-answers : (cs : List Command) → openedWords cs [] ≡ []
+pub no-answers : (cs : List Command) → openedWords cs [] ≡ []
 unfolding openedWords
 no-answers [] = refl
 no-answers (c ∷ cs) = refl
 
-opened-first : (c : Command) (cs : List Command) (o : Outcome) (r : Ran) (b : Bool)
+pub opened-first : (c : Command) (cs : List Command) (o : Outcome) (r : Ran) (b : Bool)
     → openedWords (c ∷ cs) (cond b (before o r) (before o (ran [] (o .answer .place) (o .lent))) .answers)
     ≡ cond (isOpen c (o .answer)) (o .answer .opened ∷ []) [] ++ cond b (openedWords cs (r .answers)) []
 unfolding openedWords

@@ -189,3 +189,14 @@ module _ (f : List ℕ) where
         → cond lent 0 4 ≡ tested f lent
     unfolding tested
     last-test h c w e = rw (h, c, w, count-commands h, eq-eqb (wordAt f 4 % 3) 0 e)
+
+pub at-most-4 : (f : List ℕ) (lent : Bool) → tested f lent ≤ 4
+unfolding tested
+at-most-4 f lent = by-tests (isWhole f) (isChained f) (isWithin f) lent
+  where
+    by-tests : (a b c d : Bool) → cond a (cond b (cond c (cond d 0 4) 3) 2) 1 ≤ 4
+    by-tests true true true true = omega arith
+    by-tests true true true false = omega arith
+    by-tests true true false d = omega arith
+    by-tests true false c d = omega arith
+    by-tests false b c d = omega arith

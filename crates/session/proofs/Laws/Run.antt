@@ -4,7 +4,7 @@ use mathlib.Core.Path.{_≡_, refl, sym, ap, _∙_}
 use mathlib.Core.List.{List, [], _∷_}
 use mathlib.Core.Bool.{Bool, true, false, cond}
 use native.Mathlib.Omega.{arith}
-use lib.ListN.{length, getD, take, drop, length-drop}
+use lib.ListN.{length, getD, take, drop}
 use lib.Dec.{eqb}
 use borrow.Author.Tests.{eq-eqb, ne-eqb}
 use Rattle.protocols.specs.declared.place.Place.{Place}
@@ -17,7 +17,7 @@ use Rattle.machine.specs.Run.{Ran, ran, before, runToRefusal, empty}
 use Rattle.session.specs.declared.answer.SessionAnswer.{SessionAnswer}
 use Rattle.session.specs.Contents.{body, commandsOf, sheetOf}
 use Rattle.session.specs.Session.{State, stateOf, accepted, refusedWith, answer, Finish, finish, finished, runOf}
-use Rattle.session.proofs.Laws.Words.{drop-three}
+use Rattle.session.proofs.Laws.Threes.{commands-turn, commands-end}
 
 -- what the commands are lent, list by list
 abbrev pub held : List ℕ → List ℕ → List ℕ → List ℕ → List ℕ → List ℕ → List ℕ → List ℕ → List ℕ → List ℕ → List ℕ → List ℕ → List ℕ → Lent
@@ -57,8 +57,8 @@ module _ (cs : List ℕ) (at k : ℕ) (p : Place) (l : Lent) where
 
     first : runToRefusal 5 (commandsOf (drop at cs)) p l
         ≡ cond (eqb (o .answer .number) 0) (before o rest) (before o (ran [] (o .answer .place) (o .lent)))
-    unfolding commandsOf runToRefusal
-    first = rw (drop-three cs at h, ← eo)
+    unfolding runToRefusal
+    first = rw (commands-turn cs at h, ← eo)
 
     pub run-turn : o .answer .number ≡ 0 → finishedAfter (k + 1) rest ≡ finishedAfter k (runToRefusal 5 (commandsOf (drop at cs)) p l)
     run-turn e = rw (first, eq-eqb (o .answer .number) 0 e) (sym (after-accepted k o rest e))
@@ -67,17 +67,9 @@ module _ (cs : List ℕ) (at k : ℕ) (p : Place) (l : Lent) where
         → finish (answer k (o .answer .place) (o .answer .number)) (stateOf (o .lent)) ≡ finishedAfter k (runToRefusal 5 (commandsOf (drop at cs)) p l)
     run-stop e = rw (first, ne-eqb (o .answer .number) 0 e) (sym (after-refused k o e))
 
-  -- fewer than three words are no command
-  short : (w : List ℕ) → length w < 3 → commandsOf w ≡ []
-  unfolding commandsOf
-  short [] h = refl
-  short (x ∷ []) h = refl
-  short (x ∷ y ∷ []) h = refl
-  short (x ∷ y ∷ z ∷ r) h = let w : ⊥ = omega arith in absurd w
-
   pub run-end : length cs ≤ at + 2 → finish (answer k p 0) (stateOf l) ≡ finishedAfter k (runToRefusal 5 (commandsOf (drop at cs)) p l)
   unfolding runToRefusal accepted refusedWith
-  run-end h = rw (short (drop at cs) (omega (arith, length-drop at cs)), none-more k)
+  run-end h = rw (commands-end cs at h, none-more k)
 
 -- the bodies, each a part of the words
 pub run-bodies : (w : List ℕ) (s : State) {commands inputs provider one two three : List ℕ} → commands ≡ body w 0 → inputs ≡ body w 1

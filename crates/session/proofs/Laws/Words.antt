@@ -62,9 +62,3 @@ drop-two l j h =
     let e₁ : j + 1 ≡ suc j = omega arith in
     let e₂ : j + 2 ≡ suc (suc j) = omega arith in
     rw (e₁, e₂) (drop-cons l j 0 h₀ ∙ ap (λ (r : List ℕ). getD l j 0 ∷ r) (drop-cons l (suc j) 0 h₁))
-
-pub drop-three : (l : List ℕ) (j : ℕ) → j + 2 < length l → drop j l ≡ getD l j 0 ∷ getD l (j + 1) 0 ∷ getD l (j + 2) 0 ∷ drop (j + 3) l
-drop-three l j h =
-    let h₂ : j + 2 < length l = h in
-    let e : j + 3 ≡ suc (j + 2) = omega arith in
-    rw e (drop-two l j (omega arith) ∙ ap (λ (r : List ℕ). getD l j 0 ∷ getD l (j + 1) 0 ∷ r) (drop-cons l (j + 2) 0 h₂))
