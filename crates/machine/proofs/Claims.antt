@@ -6,6 +6,7 @@ use Rattle.machine.proofs.Laws.Refusals.{entry-1}
 use Rattle.machine.proofs.Laws.Agree.{entry-2}
 use Rattle.machine.proofs.Laws.RunAgree.{throughout, run-agrees}
 use Rattle.machine.proofs.Laws.ToRefusal.{to-refusal, opened-to-refusal}
+use Rattle.machine.proofs.Laws.Sound.{stays-sound}
 use Rattle.machine.proofs.Laws.ControllerWords.{controller-adds-up}
 use Rattle.machine.proofs.Laws.Blind.Entry.{entry-3}
 use Rattle.machine.proofs.Laws.Blind.Refusal.{entry-3-to-refusal}
@@ -37,6 +38,7 @@ claims = record {
   entry-2-throughout = throughout;
   entry-2-run = run-agrees;
   to-refusal = to-refusal;
+  stays-sound = stays-sound;
   opened-to-refusal = opened-to-refusal;
   controller-adds-up = controller-adds-up;
   entry-3 = entry-3;

@@ -15,3 +15,4 @@ pub mod ControllerWords
 pub mod Play
 pub mod Effect
 pub mod Blind
+pub mod Sound

@@ -196,6 +196,9 @@ pub record Claims : Type 1 where
   pub entry-2-throughout : (n : ℕ) (cs : List Command) (p : Place) (l : Lent) → AreWords (modulus n) p l → Throughout n cs p l
   pub entry-2-run : (n : ℕ) (cs : List Command) (p : Place) (l : Lent) → AreWords (modulus n) p l → RunAgrees n cs p l
   pub to-refusal : (n : ℕ) (cs : List Command) (p : Place) (l : Lent) → ToRefusal n cs p l
+  -- where number 4 does not apply, it does not apply after any command
+  pub stays-sound : (n : ℕ) (c d : Command) (p : Place) (l : Lent)
+      → ¬ Applies n c p l 4 → ¬ Applies n d (command n c p l .answer .place) (command n c p l .lent) 4
   pub opened-to-refusal : (n : ℕ) (cs : List Command) (p : Place) (l : Lent) → AreWords (modulus n) p l
       → openedWords cs (runToRefusal n cs p l .answers) ≡ leadsToRefusal n cs (sizes l) (l .inputs) (start n p l)
   pub controller-adds-up : (n : ℕ) (cs : List Command) (p : Place) (l : Lent) → AddsUp (modulus n) cs p l (runToRefusal n cs p l)

@@ -11,6 +11,7 @@ pub enum Party {
 }
 
 // Words drawn from each tape.
+#[repr(C)]
 pub struct Drawn {
     pub provider: usize,
     pub one: usize,
@@ -19,6 +20,7 @@ pub struct Drawn {
 }
 
 // Words in each received list.
+#[repr(C)]
 pub struct Received {
     pub one: usize,
     pub two: usize,
@@ -27,6 +29,7 @@ pub struct Received {
 }
 
 // The place record: filled handles, inputs used, words drawn, words received.
+#[repr(C)]
 pub struct Place {
     pub handles: usize,
     pub inputs: usize,

@@ -1,9 +1,13 @@
 -- Laws of the definitions, one topic to a file.
 pub mod Words
 pub mod Contents
+pub mod ContentsTests
 pub mod Threes
 pub mod Run
 pub mod Session
+pub mod Refusals
+pub mod Answers
+pub mod UpToRefusal
 pub mod Puts
 pub mod Digits
 pub mod Decimal
@@ -11,3 +15,5 @@ pub mod Text
 pub mod OpenLines
 pub mod RunLines
 pub mod Report
+pub mod EntryOne
+pub mod EntryTwo

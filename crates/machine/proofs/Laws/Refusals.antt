@@ -36,7 +36,7 @@ data Exact (A : ℕ → Type 0) (k : ℕ) : Verdict → Type 0 where
   accepts : (x : Code) → ((q : ℕ) → k ≤ q → ¬ A q) → Exact A k (Accepted x)
   refuses : (r : ℕ) → A r → ((q : ℕ) → k ≤ q → q < r → ¬ A q) → Exact A k (Refused r)
 
-from-next : (A : ℕ → Type 0) (k q : ℕ) → k ≤ q → ¬ A k → (k < q → ¬ A q) → ¬ A q
+pub from-next : (A : ℕ → Type 0) (k q : ℕ) → k ≤ q → ¬ A k → (k < q → ¬ A q) → ¬ A q
 from-next A k q h no-k above = elim (eq-or-lt-of-le h) [ inl e ↦ subst (λ (j : ℕ). ¬ A j) e no-k | inr g ↦ above g ]
 
 -- a number that does not apply, before the chain
@@ -56,7 +56,7 @@ row-value n x h = omega (arith, h, values-at-most-1 n x)
 
 module _ (n : ℕ) (c : Command) (p : Place) (l : Lent) where
   -- the numbers of the table
-  bounds : {q : ℕ} → Applies n c p l q → (4 ≤ q) × (q ≤ 13)
+  pub bounds : {q : ℕ} → Applies n c p l q → (4 ≤ q) × (q ≤ 13)
   bounds (lengths-differ i h) = omega arith
   bounds (place-beyond k h) = omega arith
   bounds (no-kind h f g i) = omega arith

@@ -99,10 +99,10 @@ chained-le at end (s ∷ n ∷ r) h =
     let m = chained-le (s + n) end r (t .1) in
     omega arith
 
-two-suc : (k : ℕ) → 2 * suc k ≡ suc (suc (2 * k))
+pub two-suc : (k : ℕ) → 2 * suc k ≡ suc (suc (2 * k))
 two-suc k = omega arith
 
-two-suc-add : (k : ℕ) → 2 * suc k + 1 ≡ suc (suc (2 * k + 1))
+pub two-suc-add : (k : ℕ) → 2 * suc k + 1 ≡ suc (suc (2 * k + 1))
 two-suc-add k = omega arith
 
 -- each body ends within the file

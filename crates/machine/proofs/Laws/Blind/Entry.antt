@@ -91,7 +91,7 @@ module _ (n : ℕ) (s : Tables) (k : List ℕ) (r : Lists) (d : Drawn) where
   abbrev sized : List ℕ → Sizes
   sized i = lengths s k i d r
 
-  words-from-empty : (i : List ℕ) (t : Tapes) → AllBelow (modulus n) i → ((p : Party) → AllBelow (modulus n) (tape p t))
+  pub words-from-empty : (i : List ℕ) (t : Tapes) → AllBelow (modulus n) i → ((p : Party) → AllBelow (modulus n) (tape p t))
       → AreWords (modulus n) empty (lent s k i t r)
   words-from-empty i t b c = record { shares = none; inputs = b; tapes = c; received = nothing }
     where
