@@ -21,6 +21,16 @@ trap 'exit 1' HUP INT TERM
 for part in data args stdout; do
     diff -r "crates/sessions/$part" "$fresh/$part"
 done
+# The example sessions are among them.
+for example in examples/*.session; do
+    cmp "$example" "$fresh/data/$(basename "$example" .session)"
+done
 
 # Seeded sessions through the program, the session call and the pool call.
 "$built/differential" 20000 target/bin/pool
+
+# A failed read (of a folder) prints no verdict, a failed write (to a full device) is told on standard error.
+test -z "$(target/bin/pool < examples 2> "$fresh/read")"
+test -s "$fresh/read"
+target/bin/pool < crates/sessions/data/worked > /dev/full 2> "$fresh/write"
+test -s "$fresh/write"

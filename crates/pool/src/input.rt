@@ -3,14 +3,14 @@ ghost use Rattle.pool.specs.Input.{Counted};
 use libc::STDIN_FILENO;
 
 // So many bytes at the start of the buffer, or a read that failed.
-pub enum Input {
+pub(crate) enum Input {
     Whole(usize),
     Failed,
 }
 
 // Reads until the input ends or the buffer is full. A failed read is told apart from the end, so that no part of a session is taken
 // for the whole.
-pub fn read_whole(file: &mut [u8]) -> Input
+pub(crate) fn read_whole(file: &mut [u8]) -> Input
     ensures { λ r. ⌜ Counted r (now (file .exit)) ⌝ }
 {
     let mut done: usize = 0;

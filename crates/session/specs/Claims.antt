@@ -1,8 +1,8 @@
 -- What this crate claims of sessions, as types; proofs/Claims.antt proves each.
-use Prim.Native.Nat.{ℕ, suc, _^_, _≤_, _<_}
+use Prim.Native.Nat.{ℕ, _^_, _≤_, _<_}
 use mathlib.Core.Path.{_≡_}
 use mathlib.Core.Logic.{_↔_}
-use mathlib.Core.List.{List, [], _∷_, _++_}
+use mathlib.Core.List.{List, []}
 use lib.ListN.{length, getD, take, replicate}
 use Rattle.protocols.specs.declared.place.Drawn.{Drawn}
 use Rattle.protocols.specs.Place.{Tapes}
@@ -10,7 +10,6 @@ use Rattle.protocols.specs.Contents.{Below as AllBelow}
 use Rattle.machine.specs.declared.code.Command.{Command}
 use Rattle.machine.specs.Table.{command as asked}
 use Rattle.machine.specs.Lent.{Lent, lengths, sizes}
-use Rattle.machine.specs.Command.{command}
 use Rattle.machine.specs.Registers.{registers, leadsToRefusal}
 use Rattle.machine.specs.Start.{start}
 use Rattle.machine.specs.Run.{Ran, run, numbers, empty, registersAfter}

@@ -12,7 +12,7 @@ use Rattle.machine.specs.Run.{isOpen, sumsInThrees}
 use Rattle.session.specs.declared.answer.SessionAnswer.{SessionAnswer}
 use Rattle.session.specs.Words.{wordsOf}
 use Rattle.session.specs.Contents.{Sheet, commandsOf, sheetOf}
-use Rattle.session.specs.Session.{State, Outcome, outcome, runOf, session}
+use Rattle.session.specs.Session.{State, Outcome, runOf, session}
 
 -- ---- numbers and lines
 

@@ -15,7 +15,7 @@ pub struct SessionAnswer {
 }
 
 // Where every session starts.
-pub fn empty_place() -> Place
+pub(crate) fn empty_place() -> Place
     ensures { λ r. ⌜ r ≡ empty ⌝ }
 {
     Place {
@@ -37,7 +37,7 @@ pub fn empty_place() -> Place
 }
 
 // Of a session that is turned down as a whole.
-pub fn refused(number: u32) -> SessionAnswer
+pub(crate) fn refused(number: u32) -> SessionAnswer
     ensures { λ r. ⌜ r ≡ spec.answer 0 empty number ⌝ }
 {
     SessionAnswer {

@@ -46,7 +46,7 @@ fn is_within(file: &[u8]) -> bool
 }
 
 // The lowest number of 1 to 4 that applies, or 0; `lent` tells that what is lent will do.
-pub fn refusal(file: &[u8], lent: bool) -> u32
+pub(crate) fn refusal(file: &[u8], lent: bool) -> u32
     ensures { λ r. ⌜ r ≡ tested (now (file .entry)) lent ⌝ }
 {
     if file.len() < 48 {

@@ -84,7 +84,7 @@ fn body(words: &[u32], k: usize) -> &[u32]
 }
 
 // The run of a file's words.
-pub fn run_words(
+pub(crate) fn run_words(
     words: &[u32],
     share1: &mut [u32],
     share2: &mut [u32],

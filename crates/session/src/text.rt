@@ -60,7 +60,7 @@ fn put_open(out: &mut [u8], at: usize, handle: u32, word: u32) -> usize
     put_text(out, second, b"\n")
 }
 
-pub fn put_end(out: &mut [u8], at: usize, answer: SessionAnswer) -> usize
+pub(crate) fn put_end(out: &mut [u8], at: usize, answer: SessionAnswer) -> usize
     requires { ⌜ at + 109 ≤ length (now out) ⌝ }
     ensures { λ r. ⌜ (now (out .exit) ≡ sets (now (out .entry)) at (endLine answer)) × (r ≡ at + length (endLine answer)) ⌝ }
 {
@@ -75,7 +75,7 @@ pub fn put_end(out: &mut [u8], at: usize, answer: SessionAnswer) -> usize
     put_text(out, controller, b"\n")
 }
 
-pub fn put_stopped(out: &mut [u8], at: usize, number: u32, command: usize) -> usize
+pub(crate) fn put_stopped(out: &mut [u8], at: usize, number: u32, command: usize) -> usize
     requires { ⌜ at + 53 ≤ length (now out) ⌝ }
     ensures { λ r. ⌜ (now (out .exit) ≡ sets (now (out .entry)) at (stoppedLine number command)) × (r ≡ at + length (stoppedLine number command)) ⌝ }
 {
@@ -86,7 +86,7 @@ pub fn put_stopped(out: &mut [u8], at: usize, number: u32, command: usize) -> us
     put_text(out, last, b"\n")
 }
 
-pub fn put_refused(out: &mut [u8], at: usize, number: u32) -> usize
+pub(crate) fn put_refused(out: &mut [u8], at: usize, number: u32) -> usize
     requires { ⌜ at + 29 ≤ length (now out) ⌝ }
     ensures { λ r. ⌜ (now (out .exit) ≡ sets (now (out .entry)) at (refusedLine number)) × (r ≡ at + length (refusedLine number)) ⌝ }
 {
@@ -111,7 +111,7 @@ fn sum_from(shares: &[u32], at: usize) -> u32
 }
 
 // A line for each open among accepted commands; the shares are the controller's, three for each.
-pub fn put_opens(out: &mut [u8], commands: &[u32], shares: &[u32]) -> usize
+pub(crate) fn put_opens(out: &mut [u8], commands: &[u32], shares: &[u32]) -> usize
     requires { ⌜ 47 * length (now commands) ≤ 3 * length (now out) ⌝ }
     ensures { λ r. ⌜ (now (out .exit) ≡ sets (now (out .entry)) 0 (linesWith (commandsOf (now (commands .entry))) (sumsInThrees (modulus 5) (now (shares .entry))))) × (r ≡ length (linesWith (commandsOf (now (commands .entry))) (sumsInThrees (modulus 5) (now (shares .entry))))) × (3 * r ≤ 47 * length (now (commands .entry))) ⌝ }
 {

@@ -6,7 +6,7 @@ ghost use lib.ListN.{length, drop};
 ghost use Rattle.session.specs.Words.{wordAt, wordsOf};
 
 // The word whose four bytes start at a place, lowest first.
-pub fn word_at(file: &[u8], at: usize) -> u32
+pub(crate) fn word_at(file: &[u8], at: usize) -> u32
     requires { ⌜ at + 4 ≤ length (now file) ⌝ }
     ensures { λ r. ⌜ r ≡ wordAt (now (file .entry)) at ⌝ }
 {
@@ -18,7 +18,7 @@ pub fn word_at(file: &[u8], at: usize) -> u32
 }
 
 // Puts the file's words at the front of the lent ones.
-pub fn decode(file: &[u8], words: &mut [u32])
+pub(crate) fn decode(file: &[u8], words: &mut [u32])
     requires { ⌜ length (now file) / 4 ≤ length (now words) ⌝ }
     ensures { λ _. ⌜ now (words .exit) ≡ wordsOf (now (file .entry)) ++ drop (length (now (file .entry)) / 4) (now (words .entry)) ⌝ }
 {

@@ -19,7 +19,7 @@ fn at_most(n: usize, list: &[u32]) -> usize
     if n < list.len() { n } else { list.len() }
 }
 
-pub fn print(file: &[u8], lent: Lending) {
+pub(crate) fn print(file: &[u8], lent: Lending) {
     let mut words = [0u32; 7692];
     let mut share1 = [0u32; 128];
     let mut share2 = [0u32; 128];

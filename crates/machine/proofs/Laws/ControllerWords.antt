@@ -15,16 +15,15 @@ use Rattle.protocols.specs.Place.{controller, inOrder}
 use Rattle.machine.specs.declared.code.Code.{Code}
 use Rattle.machine.specs.declared.code.Code.the-variants.{Open}
 use Rattle.machine.specs.declared.code.Command.{Command}
-use Rattle.machine.specs.declared.answer.Answer.{Answer}
 use Rattle.machine.specs.declared.judge.Verdict.{Verdict}
 use Rattle.machine.specs.declared.judge.Verdict.the-variants.{Accepted, Refused}
 use Rattle.machine.specs.Table.{find, row, opens}
 use Rattle.machine.specs.Lent.{Lent, sizes, receivedWords}
 use Rattle.machine.specs.Verdict.{verdict}
 use Rattle.machine.specs.Command.{Outcome, accepted, decided, command}
-use Rattle.machine.specs.Run.{Ran, ran, before, runToRefusal, isOpen, openedWords, sumsInThrees}
+use Rattle.machine.specs.Run.{Ran, ran, before, runToRefusal, isOpen, sumsInThrees}
 use Rattle.machine.specs.Claims.{AddsUp}
-use Rattle.machine.proofs.Laws.Accepted.{Passed, has-room}
+use Rattle.machine.proofs.Laws.Accepted.{has-room}
 use Rattle.machine.proofs.Laws.Refusals.{above-zero}
 use Rattle.machine.proofs.Laws.Rows.{same-code}
 use Rattle.machine.proofs.Laws.Steps.{steps-counted, open-hands}

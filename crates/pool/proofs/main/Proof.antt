@@ -1,6 +1,4 @@
-use mathlib.Core.Path.{sym, subst}
-use mathlib.Core.List.{List}
-use Prim.Native.Nat.{ℕ}
+use mathlib.Core.Path.{subst}
 use Rattle.pool.specs.declared.input.Input.{Input}
 use Rattle.pool.specs.Input.{Counted}
 use borrow.Author.Needs.{needs}

@@ -1,27 +1,25 @@
 -- The text, from what a session leaves: its answer, the words, and the words that the controller received.
 use Prim.Native.Nat.{ℕ, zero, suc, _+_, _*_, _/_, _≤_, _<_}
-use mathlib.Core.Path.{_≡_, refl, sym, ap, ap₂, _∙_, subst, subst₂}
-use mathlib.Core.Bool.{Bool, true, false, cond, _&&_, false≢true}
+use mathlib.Core.Path.{_≡_, refl, sym, ap, ap₂, _∙_, subst}
+use mathlib.Core.Bool.{Bool, true, false, cond, false≢true}
 use mathlib.Core.List.{List, [], _∷_, _++_}
 use native.Mathlib.Nat.{zero-add}
 use native.Mathlib.Omega.{arith}
 use borrow.Author.Tests.{eq-eqb, ne-eqb, eqb-true, eqb-false, leb-true, le-leb, lt-ltb, le-ltb}
-use lib.ListN.{length, getD, take, drop, length-append, length-take, length-drop}
+use lib.ListN.{length, take, drop, length-append, length-drop}
 use lib.Seq.{sets, length-take-le, getD-take, take-take, take-append-le, drop-append-le}
-use lib.Dec.{eqb, ltb, leb}
+use lib.Dec.{eqb, leb}
 use Rattle.protocols.specs.Word.{modulus}
 use Rattle.machine.specs.declared.code.Command.{Command}
 use Rattle.machine.specs.Table.{command as asked}
-use Rattle.machine.specs.Lent.{Lent}
-use Rattle.machine.specs.Run.{Ran, runToRefusal, empty, openedWords, sumsInThrees}
+use Rattle.machine.specs.Run.{Ran, empty, sumsInThrees}
 use Rattle.machine.proofs.Claims.{claims}
 use Rattle.machine.proofs.Laws.Accepted.{both}
 use Rattle.session.specs.declared.answer.SessionAnswer.{SessionAnswer}
 use Rattle.session.specs.Words.{wordsOf}
 use Rattle.session.specs.Contents.{startOf, countOf, body, chained, limits, within, commandsOf, Sheet, sheetOf}
-use Rattle.session.specs.Session.{State, lentWith, isLent, tested, isWhole, isChained, isWithin, refusal, refused, runOf, accepted, Outcome, outcome, Finish, finished, performed, withWords, session}
+use Rattle.session.specs.Session.{State, lentWith, isLent, refusal, refused, runOf, accepted, Outcome, outcome, finished, performed, withWords, session}
 use Rattle.session.specs.Text.{openLines, endLine, stoppedLine, lastLine, isEarly, refusedLine, textOf, linesWith, textFrom, Readable, printed, pool, rendered, into}
-use Rattle.session.proofs.Laws.Words.{length-wordsOf}
 use Rattle.session.proofs.Laws.Contents.{Accepted, bodies, long, twelve, at-most-4}
 use Rattle.session.proofs.Laws.Contents as contents
 use Rattle.session.proofs.Laws.Session.{session-run, session-refused}

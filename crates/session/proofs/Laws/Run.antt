@@ -1,20 +1,18 @@
 -- The run of a session, a command a turn.
-use Prim.Native.Nat.{ℕ, zero, suc, _+_, _-_, _≤_, _<_}
-use mathlib.Core.Path.{_≡_, refl, sym, ap, _∙_}
-use mathlib.Core.List.{List, [], _∷_}
-use mathlib.Core.Bool.{Bool, true, false, cond}
+use Prim.Native.Nat.{ℕ, suc, _+_, _≤_, _<_}
+use mathlib.Core.Path.{_≡_, sym}
+use mathlib.Core.List.{List, []}
+use mathlib.Core.Bool.{cond}
 use native.Mathlib.Omega.{arith}
-use lib.ListN.{length, getD, take, drop}
+use lib.ListN.{length, getD, drop}
 use lib.Dec.{eqb}
 use borrow.Author.Tests.{eq-eqb, ne-eqb}
 use Rattle.protocols.specs.declared.place.Place.{Place}
 use Rattle.protocols.specs.Place.{tapes, lists}
-use Rattle.machine.specs.declared.code.Command.{Command}
 use Rattle.machine.specs.Table.{command as asked}
 use Rattle.machine.specs.Lent.{tables, Lent, lent}
 use Rattle.machine.specs.Command.{Outcome, command}
 use Rattle.machine.specs.Run.{Ran, ran, before, runToRefusal, empty}
-use Rattle.session.specs.declared.answer.SessionAnswer.{SessionAnswer}
 use Rattle.session.specs.Contents.{body, commandsOf, sheetOf}
 use Rattle.session.specs.Session.{State, stateOf, accepted, refusedWith, answer, Finish, finish, finished, runOf}
 use Rattle.session.proofs.Laws.Threes.{commands-turn, commands-end}

@@ -1,11 +1,10 @@
 -- A session, case by case.
 use Prim.Native.Nat.{ℕ, _/_, _≤_}
 use mathlib.Core.Path.{_≡_, _∙_, ap, sym}
-use mathlib.Core.Bool.{cond}
-use mathlib.Core.List.{List, _++_}
+use mathlib.Core.List.{List}
 use native.Mathlib.Omega.{arith}
-use lib.ListN.{length, take, drop}
-use lib.Dec.{eqb, leb}
+use lib.ListN.{length, take}
+use lib.Dec.{leb}
 use borrow.Author.Tests.{eq-eqb, ne-eqb, leb-true}
 use Rattle.machine.specs.Lent.{sizes}
 use Rattle.machine.specs.Verdict.{sameLength}
@@ -13,7 +12,7 @@ use Rattle.machine.proofs.Laws.Accepted.{both}
 use Rattle.session.specs.declared.answer.SessionAnswer.{SessionAnswer}
 use Rattle.session.specs.Words.{wordsOf}
 use Rattle.session.specs.Contents.{sheetOf}
-use Rattle.session.specs.Session.{State, Outcome, outcome, lentWith, isLent, refusal, refused, Finish, finish, finished, performed, runOf, withWords, session}
+use Rattle.session.specs.Session.{State, outcome, lentWith, isLent, refusal, refused, Finish, finish, finished, performed, runOf, withWords, session}
 use Rattle.session.proofs.Laws.Words.{front}
 use Rattle.session.proofs.Laws.Contents.{accepted, fits-lent}
 

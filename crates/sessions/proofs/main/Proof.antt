@@ -1,6 +1,5 @@
 use borrow.Author.Needs.{needs}
 use Prim.Native.Nat.{_-_}
-use native.Mathlib.Omega.{arith}
 use Rattle.sessions.proofs.main.Statement.{statement}
 use Rattle.sessions.proofs.main.Tie as tie
 use Rattle.sessions.proofs.main.Reads as reads

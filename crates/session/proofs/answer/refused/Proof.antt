@@ -1,5 +1,4 @@
 use mathlib.Core.Path.{ap}
-use Prim.Native.Nat.{ℕ}
 use Rattle.protocols.specs.declared.place.Place.{Place}
 use Rattle.session.specs.Session.{answer}
 use borrow.Author.Needs.{needs}

@@ -1,7 +1,7 @@
 use Rattle.session.proofs.Laws.Text.{endLine-length, stoppedLine-length, refusedLine-length}
 use native.Mathlib.Omega.{arith}
 use Prim.Native.Nat.{_+_, _-_, _*_}
-use mathlib.Core.Path.{_∙_, sym, ap}
+use mathlib.Core.Path.{sym}
 use lib.Seq.{length-take-le}
 use Rattle.session.proofs.Laws.Report.{early-put, end-put, stopped-put}
 use borrow.Author.Needs.{needs}
