@@ -9,6 +9,7 @@ pub mod Entries
 pub mod Judge
 pub mod Agree
 pub mod RunAgree
+pub mod Runs
 pub mod ToRefusal
 pub mod OpenedWords
 pub mod ControllerWords

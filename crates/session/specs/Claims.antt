@@ -17,7 +17,7 @@ use Rattle.machine.specs.Refusals.{Lowest as LowestOf}
 use Rattle.machine.specs.Claims.{Throughout, BlindRuns}
 use Rattle.session.specs.Words.{wordsOf}
 use Rattle.session.specs.Contents.{Sheet, sheetOf}
-use Rattle.session.specs.Session.{State, lentWith, stateOf, runOf, answer, Outcome, outcome, refused as turnedDown, withWords, session}
+use Rattle.session.specs.Session.{State, lentWith, stateOf, runOf, answer, Outcome, outcome, refused as turnedDown, withWords, finished, performed, session}
 use Rattle.session.specs.Refusals.{Applies, Lowest}
 use Rattle.session.specs.Text.{decimal, valueOf, openLines, linesWith}
 
@@ -65,8 +65,9 @@ module _ (file w : List ℕ) (s : State) where
     -- numbers 1 to 4 'exactly as the table says', and they change nothing
     pub refused : (r : ℕ) → 0 < r → r ≤ 4 → (answered ≡ r) ↔ Lowest file w s r
     pub unchanged : ¬ Taken → after ≡ turnedDown answered w s
-    -- otherwise it runs
+    -- otherwise it does its commands, in the run of the sheet, of which entry 3 speaks
     pub taken : Taken → UpToRefusal
+    pub runs : Taken → after ≡ performed (finished (runOf sheet s)) (withWords file w)
 
   -- ---- 3. Entry 2 for sessions: at each command done, and at the end.
 

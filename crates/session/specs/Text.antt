@@ -16,10 +16,14 @@ use Rattle.session.specs.Session.{State, Outcome, runOf, session}
 
 -- ---- numbers and lines
 
+-- the last decimal digit of n
+abbrev pub lastDigit : ℕ → ℕ
+lastDigit n = 48 + n % 10
+
 -- the decimal digits of n, the highest first, where k digits hold it
 unfoldable pub digits : ℕ → ℕ → List ℕ
 digits zero n = []
-digits (suc k) n = cond (ltb n 10) ((48 + n) ∷ []) (digits k (n / 10) ++ ((48 + n % 10) ∷ []))
+digits (suc k) n = cond (ltb n 10) ((48 + n) ∷ []) (digits k (n / 10) ++ (lastDigit n ∷ []))
 
 -- 20 digits hold every number below 2 ^ 64
 abbrev pub decimal : ℕ → List ℕ

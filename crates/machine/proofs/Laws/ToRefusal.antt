@@ -17,6 +17,7 @@ use Rattle.machine.specs.Run.{Ran, ran, before, run, runToRefusal, numbe
 use Rattle.machine.specs.Claims.{ToRefusal, all-done, stopped}
 use Rattle.machine.proofs.Laws.Agree.{entry-2, shown-after}
 use Rattle.machine.proofs.Laws.RunAgree.{goes-on as leads-on}
+use Rattle.machine.proofs.Laws.Runs.{to-refusal-first, opened-next}
 
 -- the first command, with the number w
 module _ (n : ℕ) (c : Command) (cs : List Command) (p : Place) (l : Lent) where
@@ -30,8 +31,7 @@ module _ (n : ℕ) (c : Command) (cs : List Command) (p : Place) (l : Lent) wher
   alone = before first (ran [] (first .answer .place) (first .lent))
 
   run-by : (b : Bool) → eqb (first .answer .number) 0 ≡ b → runToRefusal n (c ∷ cs) p l ≡ cond b (before first rest) alone
-  unfolding runToRefusal
-  run-by b e = ap (λ (d : Bool). cond d (before first rest) alone) e
+  run-by b e = to-refusal-first n c cs p l ∙ ap (λ (d : Bool). cond d (before first rest) alone) e
 
   goes-on : first .answer .number ≡ 0 → runToRefusal n (c ∷ cs) p l ≡ before first rest
   goes-on e = run-by true (eq-eqb (first .answer .number) 0 e)
@@ -68,9 +68,9 @@ no-answers (c ∷ cs) = refl
 pub opened-first : (c : Command) (cs : List Command) (o : Outcome) (r : Ran) (b : Bool)
     → openedWords (c ∷ cs) (cond b (before o r) (before o (ran [] (o .answer .place) (o .lent))) .answers)
     ≡ cond (isOpen c (o .answer)) (o .answer .opened ∷ []) [] ++ cond b (openedWords cs (r .answers)) []
-unfolding openedWords
-opened-first c cs o r true = refl
-opened-first c cs o r false = ap (λ (w : List ℕ). cond (isOpen c (o .answer)) (o .answer .opened ∷ []) [] ++ w) (no-answers cs)
+opened-first c cs o r true = opened-next c cs (o .answer) (r .answers)
+opened-first c cs o r false =
+    opened-next c cs (o .answer) [] ∙ ap (λ (w : List ℕ). cond (isOpen c (o .answer)) (o .answer .opened ∷ []) [] ++ w) (no-answers cs)
 
 pub opened-to-refusal : (n : ℕ) (cs : List Command) (p : Place) (l : Lent) → AreWords (modulus n) p l
     → openedWords cs (runToRefusal n cs p l .answers) ≡ leadsToRefusal n cs (sizes l) (l .inputs) (start n p l)

@@ -1,4 +1,4 @@
--- What the answers of a run tell: how many commands were done, and the refusal number; and a run with one command more.
+-- What the answers of a run tell: how many commands were done, and the refusal number.
 use Prim.Native.Nat.{ℕ, zero, suc, _<_}
 use mathlib.Core.Path.{_≡_, refl, sym, ap, _∙_}
 use mathlib.Core.List.{List, [], _∷_, _++_, map}
@@ -6,12 +6,7 @@ use native.Mathlib.Omega.{arith}
 use borrow.Author.Tests.{eq-eqb, ne-eqb}
 use lib.ListN.{length, getD, take, drop, replicate, length-replicate}
 use lib.Seq.{take-at, getD-at}
-use Rattle.protocols.specs.declared.place.Place.{Place}
-use Rattle.machine.specs.declared.code.Command.{Command}
 use Rattle.machine.specs.declared.answer.Answer.{Answer}
-use Rattle.machine.specs.Lent.{Lent}
-use Rattle.machine.specs.Command.{command}
-use Rattle.machine.specs.Run.{Ran, ran, before, run}
 use Rattle.session.specs.Session.{accepted, refusedWith}
 
 -- ---- commands done, and the number
@@ -50,19 +45,3 @@ zeros-then l a k r h e = (
   sym (take-at l (a ∷ []) k h) ∙ ap (take k) e ∙ take-at (replicate k 0) (r ∷ []) k (length-replicate k 0),
   sym (getD-at l a [] 0 k h) ∙ ap (λ (t : List ℕ). getD t k 0) e ∙ getD-at (replicate k 0) r [] 0 k (length-replicate k 0),
 )
-
--- ---- one command more
-
--- a run, and then the command c
-abbrev pub andThen : ℕ → Ran → Command → Ran
-andThen n r c = let o = command n c (r .place) (r .lent) in ran (r .answers ++ (o .answer ∷ [])) (o .answer .place) (o .lent)
-
-pub run-last : (n : ℕ) (cs : List Command) (c : Command) (p : Place) (l : Lent) → run n (cs ++ (c ∷ [])) p l ≡ andThen n (run n cs p l) c
-unfolding run
-run-last n [] c p l = refl
-run-last n (d ∷ cs) c p l = let o = command n d p l in ap (before o) (run-last n cs c (o .answer .place) (o .lent))
-
-pub length-answers : (n : ℕ) (cs : List Command) (p : Place) (l : Lent) → length (run n cs p l .answers) ≡ length cs
-unfolding run
-length-answers n [] p l = refl
-length-answers n (c ∷ cs) p l = let o = command n c p l in ap suc (length-answers n cs (o .answer .place) (o .lent))

@@ -36,7 +36,7 @@ due-start l (suc k) = refl
 
 -- ---- the chain of the first m pairs
 
-abbrev pub WrongStart : ℕ → List ℕ → ℕ → ℕ → Type 0
+abbrev WrongStart : ℕ → List ℕ → ℕ → ℕ → Type 0
 WrongStart at l m k = (k < m) × (¬ (startOf l k ≡ due at l k))
 
 abbrev pub Broken : ℕ → List ℕ → ℕ → ℕ → Type 0

@@ -7,9 +7,9 @@ use native.Mathlib.Omega.{arith}
 use Rattle.session.specs.Session.{State, Outcome, refusal, refused as turnedDown}
 use Rattle.session.specs.Refusals.{Applies, Lowest}
 use Rattle.session.specs.Claims.{after, answered, Taken, UpToRefusal, all-done, stopped, Entry1}
-use Rattle.session.proofs.Laws.Session.{session-refused}
+use Rattle.session.proofs.Laws.Session.{session-refused, session-run}
 use Rattle.session.proofs.Laws.Refusals.{bounds, Exact, taken, refused, exact}
-use Rattle.session.proofs.Laws.UpToRefusal.{up-to-refusal}
+use Rattle.session.proofs.Laws.UpToRefusal.{no-refusal, up-to-refusal}
 
 module _ (file w : List ℕ) (s : State) where
   -- no command is refused with one of these numbers
@@ -51,4 +51,5 @@ module _ (file w : List ℕ) (s : State) where
     refused = refused-by (exact file w s) refl;
     unchanged = unchanged-by (exact file w s) refl;
     taken = up-to-refusal file w s;
+    runs = λ t. session-run file w s (no-refusal file w s t);
   }

@@ -14,8 +14,9 @@ use Rattle.machine.specs.declared.code.Command.{Command}
 use Rattle.machine.specs.Lent.{tapeLengths, sizes, AreWords}
 use Rattle.machine.specs.Registers.{registers, leadsToRefusal}
 use Rattle.machine.specs.Start.{start}
-use Rattle.machine.specs.Run.{empty, registersAfter}
+use Rattle.machine.specs.Run.{run, empty, registersAfter}
 use Rattle.machine.proofs.Claims.{claims}
+use Rattle.machine.proofs.Laws.Runs.{start-by-tables}
 use Rattle.machine.proofs.Laws.Blind.Entry.{start-empty, words-from-empty}
 use Rattle.session.specs.Words.{wordsOf}
 use Rattle.session.specs.Contents.{startOf, countOf, body}
@@ -65,11 +66,13 @@ module _ (file w : List ℕ) (s : State) (bytes : AllBelow 256 file) (t : Taken 
       ≡ registersAfter 5 (take (o .answer .done) commands) (sizes (given file w s)) (sheet file w s .inputs) (registers [] empty)
 
   same-at : (k r : ℕ) → SameRegisters (leaves file w s k r)
-  unfolding start
   same-at k r =
       let cs = take k commands in
       let l = given file w s in
-      claims .entry-2-run 5 cs empty l (are-words file w s bytes) .same-registers
+      let b = sheet file w s in
+      let after-k = run 5 cs empty l in
+      start-by-tables 5 (after-k .place) (after-k .lent) (b .inputs) (b .tapes) (after-k .lent .received)
+      ∙ claims .entry-2-run 5 cs empty l (are-words file w s bytes) .same-registers
       ∙ ap (registersAfter 5 cs (sizes l) (l .inputs)) (start-empty 5 l)
 
   same-registers : UpToRefusal file w s → SameRegisters (after file w s)

@@ -8,6 +8,7 @@ use borrow.Author.Tests.{eq-eqb, ne-eqb}
 use lib.ListN.{length, getD, drop, length-drop}
 use Rattle.protocols.specs.Shares.{shares, sumOf}
 use Rattle.machine.specs.Run.{sumsInThrees}
+use Rattle.machine.proofs.Laws.Runs.{sums-none, sums-next}
 use Rattle.session.specs.Contents.{commandsOf}
 use Rattle.session.specs.Text.{openLine, linesWith}
 use Rattle.session.proofs.Laws.Threes.{drop-three, drop-short, commands-turn, commands-end}
@@ -15,35 +16,27 @@ use Rattle.session.proofs.Laws.Threes.{drop-three, drop-short, commands
 -- ---- sums in threes
 
 module _ (m : ℕ) where
-  sums-none : (l : List ℕ) → length l < 3 → sumsInThrees m l ≡ []
-  unfolding sumsInThrees
-  sums-none [] h = refl
-  sums-none (a ∷ []) h = refl
-  sums-none (a ∷ b ∷ []) h = refl
-  sums-none (a ∷ b ∷ c ∷ l) h = let w : ⊥ = omega arith in absurd w
-
   module _ (s : List ℕ) (j : ℕ) where
     sums-end : length s ≤ j + 2 → sumsInThrees m (drop j s) ≡ []
-    sums-end h = sums-none (drop j s) (drop-short s j h)
+    sums-end h = sums-none m (drop j s) (drop-short s j h)
 
     pub first-missing : length s ≤ j + 2 → 0 ≡ getD (sumsInThrees m (drop j s)) 0 0
     first-missing h = rw (sums-end h)
 
     sums-turn : j + 2 < length s
         → sumsInThrees m (drop j s) ≡ sumOf m (shares (getD s j 0) (getD s (j + 1) 0) (getD s (j + 2) 0)) ∷ sumsInThrees m (drop (j + 3) s)
-    unfolding sumsInThrees
-    sums-turn h = rw (drop-three s j h)
+    sums-turn h = rw (drop-three s j h, sums-next)
 
     pub first-sum : j + 2 < length s
         → sumOf m (shares (getD s j 0) (getD s (j + 1) 0) (getD s (j + 2) 0)) ≡ getD (sumsInThrees m (drop j s)) 0 0
     first-sum h = rw (sums-turn h)
 
-    pub sums-rest : sumsInThrees m (drop (j + 3) s) ≡ drop 1 (sumsInThrees m (drop j s))
+    sums-rest : sumsInThrees m (drop (j + 3) s) ≡ drop 1 (sumsInThrees m (drop j s))
     sums-rest = by-place (decLt (j + 2) (length s))
       where
         by-place : Dec (j + 2 < length s) → sumsInThrees m (drop (j + 3) s) ≡ drop 1 (sumsInThrees m (drop j s))
         by-place (yes h) = rw (sums-turn h)
-        by-place (no h) = sums-none (drop (j + 3) s) (omega (arith, length-drop (j + 3) s)) ∙ rw (sums-end (omega arith))
+        by-place (no h) = sums-none m (drop (j + 3) s) (omega (arith, length-drop (j + 3) s)) ∙ rw (sums-end (omega arith))
 
 -- ---- the lines
 

@@ -25,7 +25,7 @@ sets-end l s at i h = rw (drop-of-length-le s {i = i} h)
 
 -- ---- text by text
 
-pub sets-append : (l s t : List ℕ) (at : ℕ) → sets (sets l at s) (at + length s) t ≡ sets l at (s ++ t)
+sets-append : (l s t : List ℕ) (at : ℕ) → sets (sets l at s) (at + length s) t ≡ sets l at (s ++ t)
 sets-append l [] t at = rw add-zero
 sets-append l (a ∷ s) t at =
     let e : at + suc (length s) ≡ suc at + length s = omega arith in

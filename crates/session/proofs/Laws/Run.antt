@@ -13,6 +13,7 @@ use Rattle.machine.specs.Table.{command as asked}
 use Rattle.machine.specs.Lent.{tables, Lent, lent}
 use Rattle.machine.specs.Command.{Outcome, command}
 use Rattle.machine.specs.Run.{Ran, ran, before, runToRefusal, empty}
+use Rattle.machine.proofs.Laws.Runs.{to-refusal-none, to-refusal-first}
 use Rattle.session.specs.Contents.{body, commandsOf, sheetOf}
 use Rattle.session.specs.Session.{State, stateOf, accepted, refusedWith, answer, Finish, finish, finished, runOf}
 use Rattle.session.proofs.Laws.Threes.{commands-turn, commands-end}
@@ -55,8 +56,9 @@ module _ (cs : List ℕ) (at k : ℕ) (p : Place) (l : Lent) where
 
     first : runToRefusal 5 (commandsOf (drop at cs)) p l
         ≡ cond (eqb (o .answer .number) 0) (before o rest) (before o (ran [] (o .answer .place) (o .lent)))
-    unfolding runToRefusal
-    first = rw (commands-turn cs at h, ← eo)
+    first =
+        rw (commands-turn cs at h, eo)
+        (to-refusal-first 5 (asked (getD cs at 0) (getD cs (at + 1) 0) (getD cs (at + 2) 0)) (commandsOf (drop (at + 3) cs)) p l)
 
     pub run-turn : o .answer .number ≡ 0 → finishedAfter (k + 1) rest ≡ finishedAfter k (runToRefusal 5 (commandsOf (drop at cs)) p l)
     run-turn e = rw (first, eq-eqb (o .answer .number) 0 e) (sym (after-accepted k o rest e))
@@ -66,8 +68,8 @@ module _ (cs : List ℕ) (at k : ℕ) (p : Place) (l : Lent) where
     run-stop e = rw (first, ne-eqb (o .answer .number) 0 e) (sym (after-refused k o e))
 
   pub run-end : length cs ≤ at + 2 → finish (answer k p 0) (stateOf l) ≡ finishedAfter k (runToRefusal 5 (commandsOf (drop at cs)) p l)
-  unfolding runToRefusal accepted refusedWith
-  run-end h = rw (commands-end cs at h, none-more k)
+  unfolding accepted refusedWith
+  run-end h = rw (commands-end cs at h, to-refusal-none, none-more k)
 
 -- the bodies, each a part of the words
 pub run-bodies : (w : List ℕ) (s : State) {commands inputs provider one two three : List ℕ} → commands ≡ body w 0 → inputs ≡ body w 1

@@ -12,6 +12,7 @@ use Rattle.machine.specs.declared.answer.Answer.{Answer}
 use Rattle.machine.specs.Lent.{Lent}
 use Rattle.machine.specs.Command.{Outcome, command}
 use Rattle.machine.specs.Run.{Ran, ran, before, runToRefusal, openedWords}
+use Rattle.machine.proofs.Laws.Runs.{to-refusal-none, to-refusal-first, opened-next}
 use Rattle.session.specs.Session.{accepted}
 use Rattle.session.specs.Text.{openLine, openLines, linesWith}
 
@@ -36,8 +37,8 @@ module _ (c : Command) (cs : List Command) (o : Outcome) (r : Ran) where
   Lines ds t = openLines ds (t .answers) ≡ linesWith (take (accepted (t .answers)) ds) (openedWords ds (t .answers))
 
   lines-done : eqb (a .number) 0 ≡ true → Lines cs r → Lines (c ∷ cs) (whole true)
-  unfolding openLines linesWith openedWords accepted
-  lines-done e h = rw e (by-code (eqb (c .code) 11))
+  unfolding openLines linesWith accepted
+  lines-done e h = rw (opened-next c cs a (r .answers), e) (by-code (eqb (c .code) 11))
     where
       by-code : (b : Bool)
           → cond (b && true) (openLine (c .a) (a .opened)) [] ++ openLines cs (r .answers)
@@ -61,15 +62,16 @@ module _ (c : Command) (cs : List Command) (o : Outcome) (r : Ran) where
 
 pub run-lines : (n : ℕ) (cs : List Command) (p : Place) (l : Lent) → let t = runToRefusal n cs p l .answers in
     openLines cs t ≡ linesWith (take (accepted t) cs) (openedWords cs t)
-unfolding runToRefusal
-run-lines n [] p l = no-lines [] ∙ no-run
+run-lines n [] p l = rw to-refusal-none (no-lines [] ∙ no-run)
 run-lines n (c ∷ cs) p l =
     let o = command n c p l in
-    lines-by c cs o (runToRefusal n cs (o .answer .place) (o .lent)) (eqb (o .answer .number) 0) refl (run-lines n cs (o .answer .place) (o .lent))
+    rw (to-refusal-first n c cs p l)
+    (lines-by c cs o (runToRefusal n cs (o .answer .place) (o .lent)) (eqb (o .answer .number) 0) refl (run-lines n cs (o .answer .place) (o .lent)))
 
 pub run-done : (n : ℕ) (cs : List Command) (p : Place) (l : Lent) → accepted (runToRefusal n cs p l .answers) ≤ length cs
-unfolding runToRefusal accepted
-run-done n [] p l = omega arith
+unfolding accepted
+run-done n [] p l = rw to-refusal-none (omega arith)
 run-done n (c ∷ cs) p l =
     let o = command n c p l in
-    done-by c cs o (runToRefusal n cs (o .answer .place) (o .lent)) (eqb (o .answer .number) 0) refl (run-done n cs (o .answer .place) (o .lent))
+    rw (to-refusal-first n c cs p l)
+    (done-by c cs o (runToRefusal n cs (o .answer .place) (o .lent)) (eqb (o .answer .number) 0) refl (run-done n cs (o .answer .place) (o .lent)))

@@ -12,17 +12,17 @@ use Rattle.session.proofs.Laws.Digits.{digits-length}
 
 -- ---- lengths
 
-pub spaced-length : (ns : List ℕ) → length (spaced ns) ≤ 21 * length ns
+spaced-length : (ns : List ℕ) → length (spaced ns) ≤ 21 * length ns
 unfolding spaced
 spaced-length [] = omega arith
 spaced-length (n ∷ ns) = omega (arith, length-append (digits 20 n) (spaced ns), digits-length 20 n, spaced-length ns)
 
-pub line-length : (name ns : List ℕ) → length (line name ns) ≤ length name + 21 * length ns + 1
+line-length : (name ns : List ℕ) → length (line name ns) ≤ length name + 21 * length ns + 1
 line-length name ns =
     let feed : List ℕ = 10 ∷ [] in
     omega (arith, length-append name (spaced ns ++ feed), length-append (spaced ns) feed, spaced-length ns)
 
-pub number-length : (n : ℕ) → length (spaced (n ∷ [])) ≤ 21
+number-length : (n : ℕ) → length (spaced (n ∷ [])) ≤ 21
 number-length n = spaced-length (n ∷ [])
 
 -- the same as a rule for `omega`, which finds the numbers that were put

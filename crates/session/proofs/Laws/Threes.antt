@@ -18,7 +18,7 @@ drop-short l j h = omega (arith, length-drop j l)
 
 -- ---- commands
 
-pub commands-none : (l : List ℕ) → length l < 3 → commandsOf l ≡ []
+commands-none : (l : List ℕ) → length l < 3 → commandsOf l ≡ []
 unfolding commandsOf
 commands-none [] h = refl
 commands-none (x ∷ []) h = refl

@@ -17,13 +17,14 @@ use Rattle.machine.specs.Claims.{ToRefusal}
 use Rattle.machine.specs.Claims as machine
 use Rattle.machine.proofs.Claims.{claims}
 use Rattle.machine.proofs.Laws.Tests.{stable}
+use Rattle.machine.proofs.Laws.Runs.{andThen, run-last, length-answers}
 use Rattle.machine.proofs.Laws.Sound.{run-stays-sound, sound-at-empty, above-4}
 use Rattle.session.specs.Session.{State, stateOf, runOf, answer, outcome, withWords, refusal}
 use Rattle.session.specs.Refusals.{Applies, lengths-differ}
 use Rattle.session.specs.Claims.{sheet, given, after, Taken, first, leaves, UpToRefusal, all-done, stopped}
 use Rattle.session.proofs.Laws.Session.{session-run}
 use Rattle.session.proofs.Laws.Refusals.{Exact, taken, refused, exact}
-use Rattle.session.proofs.Laws.Answers.{Told, told-done, told-refused, zeros-then, andThen, run-last, length-answers}
+use Rattle.session.proofs.Laws.Answers.{Told, told-done, told-refused, zeros-then}
 
 module _ (file w : List ℕ) (s : State) where
   abbrev commands : List Command
