@@ -5,6 +5,7 @@ ghost use Rattle.machine.specs.Lent.{tables};
 ghost use Rattle.session.specs.Session.{state, outcome, session as sessionOf};
 ghost use Rattle.session.specs.Text.{rendered, into, pool as poolOf};
 use session::answer::SessionAnswer;
+use session::pool::TEXT;
 
 #[no_mangle]
 pub extern "C" fn dinglefork_session(
@@ -48,7 +49,7 @@ pub extern "C" fn dinglefork_pool(
     received2: &mut [u32],
     received3: &mut [u32],
     controller: &mut [u32],
-    out: &mut [u8; 8192],
+    out: &mut [u8; TEXT],
 ) -> usize
     ensures { λ r. ⌜ rendered r (now (out .exit)) (now (words .exit)) (state (tables (now (share1 .exit)) (now (share2 .exit)) (now (share3 .exit))) (now (kinds .exit)) (lists (now (received1 .exit)) (now (received2 .exit)) (now (received3 .exit)) (now (controller .exit)))) ≡ into (now (out .entry)) (poolOf (now (file .entry)) (now (words .entry)) (state (tables (now (share1 .entry)) (now (share2 .entry)) (now (share3 .entry))) (now (kinds .entry)) (lists (now (received1 .entry)) (now (received2 .entry)) (now (received3 .entry)) (now (controller .entry))))) ⌝ }
 {

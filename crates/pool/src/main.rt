@@ -3,14 +3,17 @@ mod input;
 
 use input::Input;
 use libc::STDOUT_FILENO;
+use session::pool::BYTES;
+use session::pool::TEXT;
+use session::session::WORDS;
 
 fn main() {
-    let mut file = [0u8; 30769];
+    let mut file = [0u8; BYTES + 1];
     let Input::Whole(n) = input::read_whole(&mut file) else {
         os::fail(b"pool: standard input");
         return;
     };
-    let mut words = [0u32; 7692];
+    let mut words = [0u32; WORDS];
     let mut share1 = [0u32; 128];
     let mut share2 = [0u32; 128];
     let mut share3 = [0u32; 128];
@@ -19,7 +22,7 @@ fn main() {
     let mut received2 = [0u32; 3584];
     let mut received3 = [0u32; 3584];
     let mut controller = [0u32; 3584];
-    let mut out = [0u8; 8192];
+    let mut out = [0u8; TEXT];
     let length = session::pool::pool(
         &file[..n],
         &mut words,

@@ -16,8 +16,11 @@ use super::text;
 // The longest legal file.
 pub const BYTES: usize = 30768;
 
+// Room for the longest text: 128 lines of at most 47 bytes and a last one of at most 109.
+pub const TEXT: usize = 8192;
+
 // The text of a session's outcome. The controller received three shares for each open.
-fn report(answer: SessionAnswer, words: &[u32], shares: &[u32], out: &mut [u8; 8192]) -> usize
+fn report(answer: SessionAnswer, words: &[u32], shares: &[u32], out: &mut [u8; TEXT]) -> usize
     requires { ⌜ (isEarly (answer .number) ≡ false → Readable answer (now words) (now shares)) ⌝ }
     ensures { λ r. ⌜ (now (out .exit) ≡ sets (now (out .entry)) 0 (textFrom answer (now (words .entry)) (now (shares .entry)))) × (r ≡ length (textFrom answer (now (words .entry)) (now (shares .entry)))) × (r ≤ length (now (out .exit))) ⌝ }
 {
@@ -48,7 +51,7 @@ pub fn pool(
     received2: &mut [u32],
     received3: &mut [u32],
     controller: &mut [u32],
-    out: &mut [u8; 8192],
+    out: &mut [u8; TEXT],
 ) -> usize
     ensures { λ r. ⌜ rendered r (now (out .exit)) (now (words .exit)) (state (tables (now (share1 .exit)) (now (share2 .exit)) (now (share3 .exit))) (now (kinds .exit)) (lists (now (received1 .exit)) (now (received2 .exit)) (now (received3 .exit)) (now (controller .exit)))) ≡ into (now (out .entry)) (spec.pool (now (file .entry)) (now (words .entry)) (state (tables (now (share1 .entry)) (now (share2 .entry)) (now (share3 .entry))) (now (kinds .entry)) (lists (now (received1 .entry)) (now (received2 .entry)) (now (received3 .entry)) (now (controller .entry))))) ⌝ }
     ensures { λ r. ⌜ (r ≤ length (now (out .exit))) × (r ≡ length (take r (now (out .exit)))) ⌝ }

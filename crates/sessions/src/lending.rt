@@ -3,6 +3,8 @@ ghost use mathlib.Core.Path.{_≡_};
 ghost use Prim.Native.Nat.{_≤_};
 ghost use lib.ListN.{length, take};
 use libc::STDOUT_FILENO;
+use session::pool::TEXT;
+use session::session::WORDS;
 
 // Entries of each share table and of the kind list, words of the controller's list, and words lent.
 pub struct Lending {
@@ -20,7 +22,7 @@ fn at_most(n: usize, list: &[u32]) -> usize
 }
 
 pub(crate) fn print(file: &[u8], lent: Lending) {
-    let mut words = [0u32; 7692];
+    let mut words = [0u32; WORDS];
     let mut share1 = [0u32; 128];
     let mut share2 = [0u32; 128];
     let mut share3 = [0u32; 128];
@@ -29,7 +31,7 @@ pub(crate) fn print(file: &[u8], lent: Lending) {
     let mut received2 = [0u32; 3584];
     let mut received3 = [0u32; 3584];
     let mut controller = [0u32; 3584];
-    let mut out = [0u8; 8192];
+    let mut out = [0u8; TEXT];
     let w = at_most(lent.words, &words);
     let n1 = at_most(lent.entries, &share1);
     let n2 = at_most(lent.entries, &share2);

@@ -3,6 +3,7 @@ mod lending;
 
 use lending::Lending;
 use libc::STDOUT_FILENO;
+use session::pool::BYTES;
 
 // The file's bytes stand at the start of the buffer; a file that is longer than any legal one fills it.
 fn print_all(file: &[u8]) {
@@ -52,7 +53,7 @@ fn print_file(path: &[u8]) {
         os::fail(path);
         return;
     }
-    let mut file = [0u8; 30769];
+    let mut file = [0u8; BYTES + 1];
     let n = io::read_full(fd, &mut file);
     libc::close(fd);
     print_all(&file[..n]);

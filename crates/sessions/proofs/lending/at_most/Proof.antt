@@ -6,11 +6,11 @@ use Rattle.sessions.proofs.lending.at_most.Tie as tie
 use Rattle.sessions.proofs.lending.at_most.Reads as reads
 use Rattle.sessions.proofs.lending.at_most.Lts as lts
 
--- src/lending.rt:16:1
+-- src/lending.rt:18:1
 returns : tie.Need-returns
 returns c = (omega arith, sym (length-take-le _ _ (omega arith)))
 
--- src/lending.rt:16:1
+-- src/lending.rt:18:1
 returns-2 : tie.Need-returns-2
 returns-2 c = (omega arith, sym (length-take-le _ _ (omega arith)))
 
