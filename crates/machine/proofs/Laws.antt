@@ -4,6 +4,7 @@ pub mod Accepted
 pub mod Tests
 pub mod Rows
 pub mod Steps
+pub mod Lowest
 pub mod Refusals
 pub mod Entries
 pub mod Judge

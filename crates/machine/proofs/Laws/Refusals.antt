@@ -2,9 +2,7 @@
 use Prim.Native.Nat.{ℕ, suc, _-_, _≤_, _<_}
 use mathlib.Core.Path.{_≡_, refl, ap, _∙_, subst}
 use mathlib.Core.Logic.{_↔_, _⊎_, inl, inr}
-use mathlib.Core.Bool.{Bool}
 use native.Mathlib.Omega.{arith}
-use native.Mathlib.Nat.{eq-or-lt-of-le}
 use lib.Pow.{pow-pos}
 use lib.ListN.{length, getD}
 use Rattle.protocols.specs.declared.place.Party.{Party}
@@ -22,32 +20,21 @@ use Rattle.machine.specs.declared.judge.Verdict.the-variants.{Accepted, 
 use Rattle.machine.specs.declared.code.Command.{Command}
 use Rattle.machine.specs.Table.{find, row}
 use Rattle.machine.specs.Lent.{Lent, sizes, table, entry, Filled}
-use Rattle.machine.specs.Verdict.{number, test, sameLength, within, sound, unusedZero, handlesFilled, kindsFit, inWord, tablesHave, inputsHave, tapesHave, listsHave, judged, looked-up, verdict}
+use Rattle.machine.specs.Verdict.{number, sameLength, within, sound, unusedZero, handlesFilled, kindsFit, inWord, tablesHave, inputsHave, tapesHave, listsHave, judged, looked-up, verdict}
 use Rattle.machine.specs.Command.{answer, outcome, accepted, decided, command}
 use Rattle.machine.specs.Refusals.{Counter, handles, inputs, drawn, received, counted, listLength, Field, field, use-of, Applies, lengths-differ, place-beyond, no-kind, no-code, unused-field, not-filled, wrong-kind, over-position, tables-full, inputs-used, tape-spent, list-full, Lowest}
 use Rattle.machine.specs.Claims.{Entry1}
 use Rattle.machine.proofs.Laws.Rows.{values-at-most-1, takes-input, Known, found, missing, known, same-code}
-use Rattle.machine.proofs.Laws.Tests.{Decides, holds, fails, same-as, and, stable, by-le, by-lt, by-eq, some-field, some-miner, four, some-tape, some-list, if-unused, if-handle, if-position, by-filled, stable-filled, NoKind, by-kinds}
+use Rattle.machine.proofs.Laws.Lowest.{Exact, passes, refuses, lower, step, same-lowest}
+use Rattle.machine.proofs.Laws.Tests.{Decides, same-as, and, stable, by-le, by-lt, by-eq, some-field, some-miner, four, some-tape, some-list, if-unused, if-handle, if-position, by-filled, stable-filled, NoKind, by-kinds}
 
--- ---- a chain of tests gives the lowest number that applies
+-- what a chain of tests gives: `Accepted` where no number from k on applies, `Refused` with the lowest otherwise
+abbrev Passes : Verdict → Type 0
+Passes (Accepted x) = Unit {0}
+Passes (Refused r) = ⊥
 
--- of the numbers from k, v is refused by the lowest that applies, or accepted where none does
-data Exact (A : ℕ → Type 0) (k : ℕ) : Verdict → Type 0 where
-  accepts : (x : Code) → ((q : ℕ) → k ≤ q → ¬ A q) → Exact A k (Accepted x)
-  refuses : (r : ℕ) → A r → ((q : ℕ) → k ≤ q → q < r → ¬ A q) → Exact A k (Refused r)
-
-pub from-next : (A : ℕ → Type 0) (k q : ℕ) → k ≤ q → ¬ A k → (k < q → ¬ A q) → ¬ A q
-from-next A k q h no-k above = elim (eq-or-lt-of-le h) [ inl e ↦ subst (λ (j : ℕ). ¬ A j) e no-k | inr g ↦ above g ]
-
--- a number that does not apply, before the chain
-lower : {A : ℕ → Type 0} {k : ℕ} {v : Verdict} → ¬ A k → Exact A (suc k) v → Exact A k v
-lower {A} {k} n (accepts x f) = accepts x (λ q h. from-next A k q h n (f q))
-lower {A} {k} n (refuses r h f) = refuses r h (λ q g i. from-next A k q g n (λ j. f q j i))
-
--- a test before the chain
-step : {A : ℕ → Type 0} {b : Bool} {v : Verdict} (k : ℕ) → Decides (A k) b → (¬ A k → Exact A (suc k) v) → Exact A k (test k b v)
-step k (holds h) next = lower h (next h)
-step k (fails h) next = refuses k h (λ q f g. absurd (omega arith))
+abbrev Judged : (ℕ → Type 0) → ℕ → Verdict → Type 0
+Judged = Exact Passes Refused
 
 -- ---- each test decides its line of the table
 
@@ -222,25 +209,25 @@ module _ (n : ℕ) (c : Command) (p : Place) (l : Lent) where
         from : Applies n c p l 13 → Line x
         from (list-full y k r h) = subst Line (same-code k e) (r, h)
 
-    from-6 : Exact (Applies n c p l) 6 (judged n (row n x) c p (sizes l) (l .kinds) (Accepted x))
+    from-6 : Judged (Applies n c p l) 6 (judged n (row n x) c p (sizes l) (l .kinds) (Accepted x))
     unfolding judged
     from-6 =
         step 6 test-6 (λ n6. step 7 test-7 (λ n7. step 8 (test-8 n7) (λ n8. step 9 test-9 (λ n9. step 10 test-10 (λ n10. step 11 test-11 (λ n11.
-        step 12 test-12 (λ n12. step 13 test-13 (λ n13. accepts x none))))))))
+        step 12 test-12 (λ n12. step 13 test-13 (λ n13. passes tt none))))))))
       where
         none : (q : ℕ) → 14 ≤ q → ¬ Applies n c p l q
         none q h s = omega (arith, bounds s)
 
   -- ---- 5, and all of it
 
-  from-5 : {y : Lookup} → Known 1 (c .code) y → find (c .code) ≡ y → Exact (Applies n c p l) 5 (looked-up n y c p (sizes l) (l .kinds))
+  from-5 : {y : Lookup} → Known 1 (c .code) y → find (c .code) ≡ y → Judged (Applies n c p l) 5 (looked-up n y c p (sizes l) (l .kinds))
   from-5 (found x f g) e = lower no-5 (from-6 x e)
     where
       no-5 : ¬ Applies n c p l 5
       no-5 (no-code h) = h (f, g)
   from-5 (missing h) e = refuses 5 (no-code h) (λ q f g. absurd (omega arith))
 
-  exact : Exact (Applies n c p l) 4 (verdict n c p (sizes l) (l .kinds))
+  exact : Judged (Applies n c p l) 4 (verdict n c p (sizes l) (l .kinds))
   unfolding verdict
   exact = step 4 test-4 (λ n4. from-5 (known (c .code)) refl)
 
@@ -251,28 +238,20 @@ module _ (n : ℕ) (c : Command) (p : Place) (l : Lent) where
   unchanged-at (Accepted x) h = absurd (h refl)
   unchanged-at (Refused r) h = refl
 
-  refused-at : {v : Verdict} → Exact (Applies n c p l) 4 v → (r : ℕ) → 0 < r → (decided n v c p l .answer .number ≡ r) ↔ Lowest n c p l r
+  refused-at : {v : Verdict} → Judged (Applies n c p l) 4 v → (r : ℕ) → 0 < r → (decided n v c p l .answer .number ≡ r) ↔ Lowest n c p l r
   unfolding accepted
-  refused-at (accepts x none) r h = (λ e. absurd (omega arith), λ s. absurd (none r (bounds (s .0) .0) (s .0)))
-  refused-at (refuses q s below) r h = (λ e. subst (Lowest n c p l) e (s, λ j g t. below j (bounds t .0) g t), same)
-    where
-      same : Lowest n c p l r → q ≡ r
-      same t =
-          let not-below : ¬ (q < r) = λ g. t .1 q g s in
-          let not-above : ¬ (r < q) = λ g. below r (bounds (t .0) .0) g (t .0) in
-          omega arith
+  refused-at {v = Refused q} (passes t none) r h = absurd t
+  refused-at {v = Accepted x} (passes t none) r h = (λ e. absurd (omega arith), λ s. absurd (none r (bounds (s .0) .0) (s .0)))
+  refused-at (refuses q s below) r h = (λ e. subst (Lowest n c p l) e (s, λ j g t. below j (bounds t .0) g t), same-lowest (λ j t. bounds t .0) s below)
 
-  accepted-at : {v : Verdict} → Exact (Applies n c p l) 4 v → (decided n v c p l .answer .number ≡ 0) ↔ ((r : ℕ) → ¬ Applies n c p l r)
+  accepted-at : {v : Verdict} → Judged (Applies n c p l) 4 v → (decided n v c p l .answer .number ≡ 0) ↔ ((r : ℕ) → ¬ Applies n c p l r)
   unfolding accepted
-  accepted-at (accepts x none) = (λ e r s. none r (bounds s .0) s, λ h. refl)
+  accepted-at {v = Refused q} (passes t none) = absurd t
+  accepted-at {v = Accepted x} (passes t none) = (λ e r s. none r (bounds s .0) s, λ h. refl)
   accepted-at (refuses r s below) = (λ e. absurd (omega (arith, bounds s)), λ h. absurd (h r s))
 
-refused-applies : {A : ℕ → Type 0} {k : ℕ} {v : Verdict} → Exact A k v → (r : ℕ) → v ≡ Refused r → A r
-refused-applies {A} (accepts x none) r e = absurd (subst tells e tt)
-  where
-    tells : Verdict → Type 0
-    tells (Accepted x) = Unit {0}
-    tells (Refused r) = ⊥
+refused-applies : {A : ℕ → Type 0} {k : ℕ} {v : Verdict} → Judged A k v → (r : ℕ) → v ≡ Refused r → A r
+refused-applies {A} (passes t none) r e = absurd (subst Passes e t)
 refused-applies {A} (refuses q s below) r e = subst A (ap number e) s
 
 -- a refusal has a number of the table

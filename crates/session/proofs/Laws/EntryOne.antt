@@ -4,11 +4,12 @@ use mathlib.Core.Path.{_≡_, refl, sym, ap, _∙_, subst}
 use mathlib.Core.Logic.{_↔_}
 use mathlib.Core.List.{List}
 use native.Mathlib.Omega.{arith}
+use Rattle.machine.proofs.Laws.Lowest.{passes, refuses, same-lowest}
 use Rattle.session.specs.Session.{State, Outcome, refusal, refused as turnedDown}
 use Rattle.session.specs.Refusals.{Applies, Lowest}
 use Rattle.session.specs.Claims.{after, answered, Taken, UpToRefusal, all-done, stopped, Entry1}
 use Rattle.session.proofs.Laws.Session.{session-refused, session-run}
-use Rattle.session.proofs.Laws.Refusals.{bounds, Exact, taken, refused, exact}
+use Rattle.session.proofs.Laws.Refusals.{bounds, Tested, exact}
 use Rattle.session.proofs.Laws.UpToRefusal.{no-refusal, up-to-refusal}
 
 module _ (file w : List ℕ) (s : State) where
@@ -26,25 +27,19 @@ module _ (file w : List ℕ) (s : State) where
   none-applies : ((q : ℕ) → 1 ≤ q → ¬ Applies file w s q) → Taken file w s
   none-applies none r a = none r (bounds file w s a .0) a
 
-  unchanged-by : {v : ℕ} → Exact (Applies file w s) 1 v → refusal file w s ≡ v → ¬ Taken file w s
+  unchanged-by : {v : ℕ} → Tested (Applies file w s) 1 v → refusal file w s ≡ v → ¬ Taken file w s
       → after file w s ≡ turnedDown (answered file w s) w s
-  unchanged-by (taken none) e h = absurd (h (none-applies none))
-  unchanged-by (refused r a below) e h = turned-down a e ∙ ap (λ (q : ℕ). turnedDown q w s) (sym (answers a e))
+  unchanged-by (passes z none) e h = absurd (h (none-applies none))
+  unchanged-by (refuses r a below) e h = turned-down a e ∙ ap (λ (q : ℕ). turnedDown q w s) (sym (answers a e))
 
-  refused-by : {v : ℕ} → Exact (Applies file w s) 1 v → refusal file w s ≡ v → (r : ℕ) → 0 < r → r ≤ 4
+  refused-by : {v : ℕ} → Tested (Applies file w s) 1 v → refusal file w s ≡ v → (r : ℕ) → 0 < r → r ≤ 4
       → (answered file w s ≡ r) ↔ Lowest file w s r
-  refused-by (taken none) e r g h =
+  refused-by (passes z none) e r g h =
       (λ f. absurd (late (up-to-refusal file w s (none-applies none)) (omega (arith, f))), λ l. absurd (none-applies none r (l .0)))
-  refused-by (refused q a below) e r g h = (
+  refused-by (refuses q a below) e r g h = (
     λ f. subst (Lowest file w s) (sym (answers a e) ∙ f) (a, λ j i b. below j (bounds file w s b .0) i b),
-    λ l. answers a e ∙ same l,
+    λ l. answers a e ∙ same-lowest (λ j b. bounds file w s b .0) a below l,
   )
-    where
-      same : Lowest file w s r → q ≡ r
-      same l =
-          let not-below : ¬ (q < r) = λ i. l .1 q i a in
-          let not-above : ¬ (r < q) = λ i. below r (bounds file w s (l .0) .0) i (l .0) in
-          omega arith
 
   pub entry-1 : Entry1 file w s
   entry-1 = record {

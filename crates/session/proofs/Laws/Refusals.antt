@@ -1,38 +1,24 @@
 -- Numbers 1 to 4: the tests of a session give the lowest number that applies, or 0 where none does.
-use Prim.Native.Nat.{ℕ, suc, _%_, _/_, _≤_, _<_}
-use mathlib.Core.Path.{_≡_, sym, _∙_}
+use Prim.Native.Nat.{ℕ, _%_, _/_, _≤_, _<_}
+use mathlib.Core.Path.{_≡_, refl, sym, _∙_}
 use mathlib.Core.Logic.{_⊎_, inl, inr}
-use mathlib.Core.Bool.{Bool}
 use mathlib.Core.List.{List}
 use native.Mathlib.Omega.{arith}
 use lib.ListN.{length}
 use Rattle.protocols.specs.Shares.{Miner}
 use Rattle.machine.specs.Lent.{table}
-use Rattle.machine.proofs.Laws.Refusals.{from-next}
-use Rattle.machine.proofs.Laws.Tests.{Decides, holds, fails, same-as, and, by-le, by-eq, some-miner}
+use Rattle.machine.proofs.Laws.Lowest.{Exact, passes, step}
+use Rattle.machine.proofs.Laws.Tests.{Decides, same-as, and, by-le, by-eq, some-miner}
 use Rattle.session.specs.Words.{wordsOf}
 use Rattle.session.specs.Contents.{countOf, limits, sheetOf}
-use Rattle.session.specs.Session.{State, test, isWhole, isChained, isWithin, isLent, tested, refusal}
+use Rattle.session.specs.Session.{State, isWhole, isChained, isWithin, isLent, tested, refusal}
 use Rattle.session.specs.Refusals.{Applies, too-short, no-words, wrong-start, wrong-end, over-limit, not-in-threes, lengths-differ, few-words}
 use Rattle.session.proofs.Laws.Words.{length-wordsOf}
 use Rattle.session.proofs.Laws.ContentsTests.{due-start, Broken, by-chain, Over, by-within}
 
--- ---- a chain of tests gives the lowest number that applies
-
--- of the numbers from k, r is the lowest that applies, or 0 where none does
-pub data Exact (A : ℕ → Type 0) (k : ℕ) : ℕ → Type 0 where
-  taken : ((q : ℕ) → k ≤ q → ¬ A q) → Exact A k 0
-  refused : (r : ℕ) → A r → ((q : ℕ) → k ≤ q → q < r → ¬ A q) → Exact A k r
-
--- a number that does not apply, before the chain
-lower : {A : ℕ → Type 0} {k v : ℕ} → ¬ A k → Exact A (suc k) v → Exact A k v
-lower {A} {k} n (taken f) = taken (λ q h. from-next A k q h n (f q))
-lower {A} {k} n (refused r h f) = refused r h (λ q g i. from-next A k q g n (λ j. f q j i))
-
--- a test before the chain
-step : {A : ℕ → Type 0} {b : Bool} {v : ℕ} (k : ℕ) → Decides (A k) b → (¬ A k → Exact A (suc k) v) → Exact A k (test k b v)
-step k (holds h) next = lower h (next h)
-step k (fails h) next = refused k h (λ q f g. absurd (omega arith))
+-- what the chain of tests gives: 0 where no number from k on applies, the lowest otherwise
+abbrev pub Tested : (ℕ → Type 0) → ℕ → ℕ → Type 0
+Tested = Exact (λ v. v ≡ 0) (λ r. r)
 
 -- ---- each test decides its line of the table
 
@@ -98,9 +84,9 @@ module _ (file w : List ℕ) (s : State) where
       from (lengths-differ i h) = inl (i, h)
       from (few-words h) = inr h
 
-  pub exact : Exact (Applies file w s) 1 (refusal file w s)
+  pub exact : Tested (Applies file w s) 1 (refusal file w s)
   unfolding tested
-  exact = step 1 test-1 (λ n1. step 2 (test-2 n1) (λ n2. step 3 (test-3 n1) (λ n3. step 4 test-4 (λ n4. taken none))))
+  exact = step 1 test-1 (λ n1. step 2 (test-2 n1) (λ n2. step 3 (test-3 n1) (λ n3. step 4 test-4 (λ n4. passes refl none))))
     where
       none : (q : ℕ) → 5 ≤ q → ¬ Applies file w s q
       none q h a = omega (arith, bounds a)

@@ -1,6 +1,6 @@
 -- A session that is taken is the run of its commands up to the first refusal.
 use Prim.Native.Nat.{ℕ, suc, _<_}
-use mathlib.Core.Path.{_≡_, refl, sym, ap, _∙_}
+use mathlib.Core.Path.{_≡_, sym, ap, _∙_}
 use mathlib.Core.List.{List, [], _∷_, _++_, map-append}
 use native.Mathlib.Omega.{arith}
 use lib.ListN.{length, getD, take, replicate, length-map}
@@ -17,13 +17,14 @@ use Rattle.machine.specs.Claims.{ToRefusal}
 use Rattle.machine.specs.Claims as machine
 use Rattle.machine.proofs.Claims.{claims}
 use Rattle.machine.proofs.Laws.Tests.{stable}
+use Rattle.machine.proofs.Laws.Lowest.{passes, refuses}
 use Rattle.machine.proofs.Laws.Runs.{andThen, run-last, length-answers}
 use Rattle.machine.proofs.Laws.Sound.{run-stays-sound, sound-at-empty, above-4}
 use Rattle.session.specs.Session.{State, stateOf, runOf, answer, outcome, withWords, refusal}
 use Rattle.session.specs.Refusals.{Applies, lengths-differ}
 use Rattle.session.specs.Claims.{sheet, given, after, Taken, first, leaves, UpToRefusal, all-done, stopped}
 use Rattle.session.proofs.Laws.Session.{session-run}
-use Rattle.session.proofs.Laws.Refusals.{Exact, taken, refused, exact}
+use Rattle.session.proofs.Laws.Refusals.{Tested, exact}
 use Rattle.session.proofs.Laws.Answers.{Told, told-done, told-refused, zeros-then}
 
 module _ (file w : List ℕ) (s : State) where
@@ -37,9 +38,9 @@ module _ (file w : List ℕ) (s : State) where
   pub no-refusal : Taken file w s → refusal file w s ≡ 0
   no-refusal t = by-exact (exact file w s)
     where
-      by-exact : {v : ℕ} → Exact (Applies file w s) 1 v → v ≡ 0
-      by-exact (taken none) = refl
-      by-exact (refused r h below) = absurd (t r h)
+      by-exact : {v : ℕ} → Tested (Applies file w s) 1 v → v ≡ 0
+      by-exact (passes zero none) = zero
+      by-exact (refuses r h below) = absurd (t r h)
 
   module _ (t : Taken file w s) where
     leaves-at : (k r : ℕ) → Told (ran .answers) k r → ran .place ≡ first file w s k .place → ran .lent ≡ first file w s k .lent
