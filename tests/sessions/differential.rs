@@ -3,6 +3,11 @@
 //! `differential SESSIONS PATH_OF_POOL [FIRST]`: sessions are told by their numbers, from FIRST
 //! (0 if not given) on; a number that differs can be run again alone.
 
+mod answers;
+// The command call is tested in tests/interface and tests/faults.
+#[allow(dead_code)]
+#[path = "../../include/dinglefork.rs"]
+mod dinglefork;
 mod engine;
 mod generate;
 mod random;
@@ -159,7 +164,7 @@ fn check_session_call(file: &[u8], before: &Lent) -> Result<Outcome, String> {
     let outcome = reference::session(file, &mut expected);
     let mut lists = Guarded::copy_of(before);
     let got = engine::session(file, &mut lists);
-    let want = (outcome.done, outcome.place, outcome.number);
+    let want = answers::of_session(&outcome);
     if got != want {
         return Err(format!(
             "the session call answers {got:?}, expected {want:?}"
