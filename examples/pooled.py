@@ -1,7 +1,8 @@
 #!/usr/bin/env python3
-"""Calls the engine from Python: document 01's worked session, command by command and as a file, and an example session.
+"""Calls the engine from Python: a worked session, command by command and as a file, and an example session.
 
-include/dinglefork.h says what each call is lent, writes and answers. The tapes here are fixed: never use such tapes for true figures.
+include/dinglefork.h says what each call is lent, writes and answers. The tapes here are fixed: never use such
+tapes for true figures.
 """
 import struct
 import subprocess
@@ -18,9 +19,14 @@ WORDS, TEXT, ENTRIES, RECEIVED = 7692, 8192, 128, 3584
 
 
 class Place(Structure):
-    """The place record: filled handles, inputs used, words drawn from each tape, words in each received list."""
+    """Filled handles, inputs used, words drawn (provider, miners), words received (miners, controller)."""
 
-    _fields_ = [(name, c_size_t) for name in ("handles", "inputs")] + [("drawn", c_size_t * 4), ("received", c_size_t * 4)]
+    _fields_ = [
+        ("handles", c_size_t),
+        ("inputs", c_size_t),
+        ("drawn", c_size_t * 4),
+        ("received", c_size_t * 4),
+    ]
 
 
 class Answer(Structure):

@@ -1,4 +1,4 @@
-/* The header's records have the layout that the library was built with. The compiler alone checks it, as C and as C++. */
+/* The header's records have the library's layout. The compiler alone checks it, as C and as C++. */
 #include <assert.h>
 #include <stddef.h>
 

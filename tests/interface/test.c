@@ -1,4 +1,7 @@
-/* The three calls through the C header: document 01's worked session, its refusals, and empty lists. Valid C99 and C++. */
+/*
+ * The three calls through the C header: document 01's worked session, its refusals, and empty
+ * lists. Valid C99 and C++.
+ */
 #include <stdio.h>
 #include <string.h>
 
@@ -161,7 +164,8 @@ static void worked_by_commands(void) {
     size_t i;
     fill();
     for (i = 0; i < 4; i++) {
-        dinglefork_answer answer = command(words[3 * i], words[3 * i + 1], words[3 * i + 2], place, all);
+        const uint32_t *next = &words[3 * i];
+        dinglefork_answer answer = command(next[0], next[1], next[2], place, all);
         CHECK(answer.number == DINGLEFORK_ACCEPTED);
         CHECK(opened == 0);
         place = answer.place;

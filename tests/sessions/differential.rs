@@ -10,6 +10,7 @@ mod answers;
 mod dinglefork;
 mod engine;
 mod generate;
+mod lists;
 mod random;
 mod reference;
 mod registers;

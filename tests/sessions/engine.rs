@@ -1,94 +1,46 @@
 //! The engine under test, reached through its C interface, with guarded lists.
 
 use crate::dinglefork::{self, Lists, SessionAnswer, Tables, TEXT};
+use crate::lists;
 use crate::reference::machine::Lent;
 
 /// Words that stand before and after each lent list and must stay as they are.
 const GUARD: [u32; 4] = [0x5afe_5afe, 0, u32::MAX, 0x0dd5_0dd5];
 
-/// The order in which lists are passed, and their names.
-const NAMES: [&str; 9] = [
-    "the words",
-    "share table 1",
-    "share table 2",
-    "share table 3",
-    "the kind list",
-    "received list 1",
-    "received list 2",
-    "received list 3",
-    "the controller's list",
-];
-
 /// Guarded copies of the lent lists, in the order in which they are passed.
 pub struct Guarded {
-    buffers: [Vec<u32>; 9],
+    buffers: [Vec<u32>; lists::COUNT],
 }
 
 impl Guarded {
     pub fn copy_of(lent: &Lent) -> Guarded {
         Guarded {
-            buffers: lists(lent).map(|list| [&GUARD, list.as_slice(), &GUARD].concat()),
+            buffers: lists::of(lent).map(|list| [&GUARD, list.as_slice(), &GUARD].concat()),
         }
     }
 
     /// The lists between their guards.
-    fn lent(&mut self) -> (&mut [u32], Tables<'_>, Lists<'_>) {
-        let between = self.buffers.each_mut().map(|buffer| {
+    fn lend(&mut self) -> (&mut [u32], Tables<'_>, Lists<'_>) {
+        lists::lend(self.buffers.each_mut().map(|buffer| {
             let end = buffer.len() - GUARD.len();
             &mut buffer[GUARD.len()..end]
-        });
-        let [words, share1, share2, share3, kinds, one, two, three, controller] = between;
-        let tables = Tables {
-            share1,
-            share2,
-            share3,
-            kinds,
-        };
-        let lists = Lists {
-            one,
-            two,
-            three,
-            controller,
-        };
-        (words, tables, lists)
+        }))
     }
 
     /// The first word in which a list, or the guard about it, is not as expected.
     pub fn compare(&self, expected: &Lent) -> Result<(), String> {
-        for (i, list) in lists(expected).into_iter().enumerate() {
+        for (i, want) in lists::of(expected).into_iter().enumerate() {
             let (before, rest) = self.buffers[i].split_at(GUARD.len());
-            let (words, after) = rest.split_at(list.len());
-            if before != GUARD || after != GUARD {
-                return Err(format!("words about {} are overwritten", NAMES[i]));
-            }
-            if let Some(at) = (0..list.len()).find(|&at| words[at] != list[at]) {
-                let (got, want) = (words[at], list[at]);
-                return Err(format!("{}, entry {at}: {got}, expected {want}", NAMES[i]));
-            }
+            let (got, after) = rest.split_at(want.len());
+            lists::compare(i, got, want, before == GUARD && after == GUARD)?;
         }
         Ok(())
     }
 }
 
-fn lists(lent: &Lent) -> [&Vec<u32>; 9] {
-    let [share1, share2, share3] = &lent.shares;
-    let [received1, received2, received3, controller] = &lent.received;
-    [
-        &lent.words,
-        share1,
-        share2,
-        share3,
-        &lent.kinds,
-        received1,
-        received2,
-        received3,
-        controller,
-    ]
-}
-
 /// The session call.
 pub fn session(file: &[u8], guarded: &mut Guarded) -> SessionAnswer {
-    let (words, mut tables, mut lists) = guarded.lent();
+    let (words, mut tables, mut lists) = guarded.lend();
     dinglefork::session(file, words, &mut tables, &mut lists)
 }
 
@@ -97,7 +49,7 @@ pub fn pool(file: &[u8], guarded: &mut Guarded, filler: u8) -> Result<Vec<u8>, S
     let mut room = vec![filler; TEXT + 2 * GUARD.len()];
     let out = room[GUARD.len()..].first_chunk_mut::<TEXT>();
     let out = out.expect("the guards stand about the text's room");
-    let (words, mut tables, mut lists) = guarded.lent();
+    let (words, mut tables, mut lists) = guarded.lend();
     let length = dinglefork::pool(file, words, &mut tables, &mut lists, out);
     if length > TEXT {
         return Err(format!("the text's length is {length}, over {TEXT}"));

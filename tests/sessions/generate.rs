@@ -88,9 +88,9 @@ fn fill(random: &mut Random, sheet: &mut Sheet) {
 
 /// Accepted commands so far, and the kinds of the handles that they fill.
 #[derive(Default)]
-struct Draft {
-    commands: Vec<[u32; 3]>,
-    kinds: Vec<u32>,
+pub struct Draft {
+    pub commands: Vec<[u32; 3]>,
+    pub kinds: Vec<u32>,
 }
 
 impl Draft {
@@ -103,7 +103,7 @@ impl Draft {
     }
 
     /// A command that the machine accepts after these, if inputs and tapes last.
-    fn accepted(&self, random: &mut Random) -> [u32; 3] {
+    pub fn accepted(&self, random: &mut Random) -> [u32; 3] {
         let code = code(random);
         self.accepted_of(random, code)
     }
@@ -168,7 +168,7 @@ impl Draft {
     }
 
     /// Makes one of numbers 5 to 9 apply, if the handles allow it.
-    fn spoil(&self, random: &mut Random, command: &mut [u32; 3]) {
+    pub fn spoil(&self, random: &mut Random, command: &mut [u32; 3]) {
         let of = |random: &mut Random, code| self.accepted_of(random, code);
         match random.below(8) {
             0 => command[0] = random.pick(&[0, 13, 14, 256, 257, 1 << 31, u32::MAX]),
