@@ -4,6 +4,8 @@
 //! Nothing is allocated; a command's draws and received words are arrays of the row's lengths, so
 //! that the checks of numbers 12 and 13 are the only ones.
 
+#![forbid(unsafe_code)]
+
 mod bit;
 mod bits;
 mod command;
