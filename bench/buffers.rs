@@ -1,6 +1,6 @@
 //! The lists that are lent to both sides, and their calls on them.
 
-use crate::engine::{self, Answer, Place, SessionAnswer, TEXT};
+use crate::engine::{self, Answer, Lists, Place, SessionAnswer, Tables, Tapes, TEXT};
 use crate::reference::Lengths;
 use crate::twin;
 
@@ -56,75 +56,116 @@ impl Buffers {
 
     #[inline(always)]
     pub fn command(&mut self, side: Side, [code, a, b]: [u32; 3], place: Place) -> Answer {
-        let call = match side {
-            Side::Engine => engine::command,
-            Side::Twin => twin::command,
-        };
-        let [share1, share2, share3] = &mut self.shares;
-        let [provider, tape1, tape2, tape3] = &self.tapes;
-        let [received1, received2, received3, controller] = &mut self.received;
-        call(
-            code,
-            a,
-            b,
-            place,
-            share1,
-            share2,
-            share3,
-            &mut self.kinds,
-            &self.inputs,
-            provider,
-            tape1,
-            tape2,
-            tape3,
-            received1,
-            received2,
-            received3,
-            controller,
-        )
+        match side {
+            Side::Engine => {
+                let (_, inputs, tapes, mut tables, mut lists, _) = self.parts();
+                engine::command([code, a, b], place, &mut tables, inputs, tapes, &mut lists)
+            }
+            Side::Twin => {
+                let (_, inputs, tapes, t, l, _) = self.parts();
+                twin::command(
+                    code,
+                    a,
+                    b,
+                    place,
+                    t.share1,
+                    t.share2,
+                    t.share3,
+                    t.kinds,
+                    inputs,
+                    tapes.provider,
+                    tapes.one,
+                    tapes.two,
+                    tapes.three,
+                    l.one,
+                    l.two,
+                    l.three,
+                    l.controller,
+                )
+            }
+        }
     }
 
     #[inline(always)]
     pub fn session(&mut self, side: Side, file: &[u8]) -> SessionAnswer {
-        let call = match side {
-            Side::Engine => engine::session,
-            Side::Twin => twin::session,
-        };
-        let [share1, share2, share3] = &mut self.shares;
-        let [received1, received2, received3, controller] = &mut self.received;
-        call(
-            file,
-            &mut self.words,
-            share1,
-            share2,
-            share3,
-            &mut self.kinds,
-            received1,
-            received2,
-            received3,
-            controller,
-        )
+        let (words, _, _, mut t, mut l, _) = self.parts();
+        match side {
+            Side::Engine => engine::session(file, words, &mut t, &mut l),
+            Side::Twin => twin::session(
+                file,
+                words,
+                t.share1,
+                t.share2,
+                t.share3,
+                t.kinds,
+                l.one,
+                l.two,
+                l.three,
+                l.controller,
+            ),
+        }
     }
 
     #[inline(always)]
     pub fn pool(&mut self, side: Side, file: &[u8]) -> usize {
-        let call = match side {
-            Side::Engine => engine::pool,
-            Side::Twin => twin::pool,
-        };
+        let (words, _, _, mut t, mut l, text) = self.parts();
+        match side {
+            Side::Engine => engine::pool(file, words, &mut t, &mut l, text),
+            Side::Twin => twin::pool(
+                file,
+                words,
+                t.share1,
+                t.share2,
+                t.share3,
+                t.kinds,
+                l.one,
+                l.two,
+                l.three,
+                l.controller,
+                text,
+            ),
+        }
+    }
+
+    /// Words, inputs, tapes, tables, received lists and the text's room, each as it is lent.
+    #[inline(always)]
+    fn parts(
+        &mut self,
+    ) -> (
+        &mut [u32],
+        &[u32],
+        Tapes<'_>,
+        Tables<'_>,
+        Lists<'_>,
+        &mut [u8; TEXT],
+    ) {
         let [share1, share2, share3] = &mut self.shares;
-        let [received1, received2, received3, controller] = &mut self.received;
-        call(
-            file,
-            &mut self.words,
+        let [provider, one, two, three] = &self.tapes;
+        let tapes = Tapes {
+            provider,
+            one,
+            two,
+            three,
+        };
+        let tables = Tables {
             share1,
             share2,
             share3,
-            &mut self.kinds,
-            received1,
-            received2,
-            received3,
+            kinds: &mut self.kinds,
+        };
+        let [one, two, three, controller] = &mut self.received;
+        let lists = Lists {
+            one,
+            two,
+            three,
             controller,
+        };
+        (
+            &mut self.words,
+            &self.inputs,
+            tapes,
+            tables,
+            lists,
             &mut self.text,
         )
     }

@@ -5,6 +5,8 @@
 
 mod buffers;
 mod check;
+#[allow(dead_code)]
+#[path = "../include/dinglefork.rs"]
 mod engine;
 mod time;
 mod twin;

@@ -7,7 +7,8 @@ program `crates/vectors` runs the same cases on the proved library and has to wr
     python3 tests/protocol_vectors.py > crates/vectors/stdout
 
 A protocol moves the drawn counts of the place record alone: commands, which stand on the protocols, move the others.
-A tape with too few words left is number 12: shares 0, 0, 0, the place as it was and no words. Else the number is 0.
+A tape with too few words left is number 12, else a received list with too few is number 13: shares 0, 0, 0, the place as it
+was and no words. Else the number is 0, and each party's words go to the front of its list.
 """
 
 from types import SimpleNamespace
@@ -236,19 +237,37 @@ def worked():
         assert given in (shares, value)
         show(label, name, u, v, w, "number", number, "shares", *shares, "value", value)
     assert [word for label in ("M1", "M2", "M3", "M4") for word in kept[label][0]] == [1, 3, 50, 60, 24, 18, 90]
-    return kept
 
 
-def deliveries(kept):
-    """Words go to the front of the tail, if they fit."""
-    for words, filled in [(kept["M4"][3], n) for n in (29, 27, 30)] + [(kept["M12"][1], n) for n in (4, 2, 5)]:
-        lent, fits = list(range(100, 132)), len(words) <= 32 - filled
-        lent[filled : filled + len(words) * fits] = words * fits
-        print("deliver", len(words), "words into", 32 - filled, "done", int(fits), "list", *lent)
+def exact(tapes, need, short=None):
+    """Tapes with just the words needed after those that the place 1 to 10 counts as drawn, one word less in the short one."""
+    return [tape[: 3 + x + n - (x == short)] for x, (tape, n) in enumerate(zip(tapes, need))]
+
+
+def deliver(place, lists, number, shares, moved, received):
+    """01, number 13: 'any received list has fewer words left than needed'. Number 12 is lower, and then no words are due."""
+    if any(len(words) > len(lent) for words, lent in zip(received, lists)):
+        return 13, [0, 0, 0], place, lists
+    return number, shares, moved, [words + lent[len(words) :] for words, lent in zip(received, lists)]
+
+
+def deliveries(name, operands, tapes, need):
+    """Tails of the lists 100 to 131 with exactly enough room, more, and one word less in one list, then in a tape too."""
+    counts, place, whole = COMMANDS[name][2], list(range(1, 11)), list(range(100, 132))
+    first = next(x for x, n in enumerate(need) if n)
+    lines = [("exact", 0, None, None), ("more", 2, None, None)]
+    lines += [(f"short {LISTS[x]}", 0, x, None) for x, n in enumerate(counts) if n]
+    for label, more, short, tape in [*lines, ("short tape and miner 2", 0, 1, first)]:
+        room = [n + more - (x == short) for x, n in enumerate(counts)]
+        performed = perform(name, *operands, place, exact(tapes, need, tape))
+        number, shares, moved, tails = deliver(place, [whole[32 - n :] for n in room], *performed)
+        print("deliver", label, name, "room", *room, "number", number, "shares", *shares, "place", *moved)
+        for party, tail in zip(LISTS, tails):
+            print(" ", party, "list", *whole[: 32 - len(tail)], *tail)
 
 
 def cases(name, need, words):
-    """A protocol's generated cases: three in full, the tapes that end too soon, and two hundred as a checksum."""
+    """A protocol's cases: three in full, tapes that end too soon, lists that are too short, and two hundred as a checksum."""
     for n in (1, 2, 3):
         operands, tapes, _ = generated(name, words)
         number, shares, place, received = perform(name, *operands, tapes)
@@ -260,9 +279,10 @@ def cases(name, need, words):
     if any(need):
         operands, tapes, _ = generated(name, words)
     for short in [x for x, n in enumerate([*need, sum(need)]) if n]:
-        lent = [tape[: 3 + x + n - (x == short)] for x, (tape, n) in enumerate(zip(tapes, need))]
-        number, shares, place, received = perform(name, *operands[:3], list(range(1, 11)), lent)
+        number, shares, place, received = perform(name, *operands[:3], list(range(1, 11)), exact(tapes, need, short))
         print("short", TAPES[short], name, "number", number, "place", *place, "words", *map(len, received))
+    if any(need):
+        deliveries(name, operands[:3], tapes, need)
     h = 0
     for _ in range(200):
         operands, tapes, lent = generated(name, words)
@@ -273,7 +293,7 @@ def cases(name, need, words):
 
 
 if __name__ == "__main__":
-    deliveries(worked())
+    worked()
     generator = words_from(1)
     for protocol, (*_, drawn) in COMMANDS.items():
         cases(protocol, drawn, generator)

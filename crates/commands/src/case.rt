@@ -71,7 +71,7 @@ fn lists(text: &[u8], at: &mut usize, ends: Ends, read: &[u32; 1024]) {
 
 // A case begins with the line that names it. What is only read, inputs and tapes, stands in one list and is handed on as
 // parts of it.
-pub fn printed(text: &[u8], at: &mut usize) {
+pub(crate) fn printed(text: &[u8], at: &mut usize) {
     print::text(scan::line(text, at));
     print::text(b"\n");
     let mut read = [0u32; 1024];

@@ -3,16 +3,16 @@ use libc::STDOUT_FILENO;
 use machine::answer::Answer;
 use protocols::place::Place;
 
-pub fn text(bytes: &[u8]) {
+pub(crate) fn text(bytes: &[u8]) {
     io::write_all(STDOUT_FILENO, bytes);
 }
 
 // Each number but a line's first stands after a space.
-pub fn first(n: u32) {
+pub(crate) fn first(n: u32) {
     io::print_decimal(STDOUT_FILENO, n as u64);
 }
 
-pub fn word(n: u32) {
+pub(crate) fn word(n: u32) {
     text(b" ");
     first(n);
 }
@@ -23,7 +23,7 @@ fn count(n: usize) {
 }
 
 // The first n words of a list on a line.
-pub fn list(name: &[u8], list: &[u32; 1024], n: usize) {
+pub(crate) fn list(name: &[u8], list: &[u32; 1024], n: usize) {
     text(name);
     let mut i = 0;
     while i < n && i < 1024 {
@@ -50,7 +50,7 @@ fn place(place: Place) {
 }
 
 // The rest of a command's line.
-pub fn answer(answer: Answer) {
+pub(crate) fn answer(answer: Answer) {
     text(b" answers");
     word(answer.number);
     text(b" place");

@@ -113,7 +113,7 @@ fn step(
 }
 
 // All commands of a case, refused ones among them.
-pub fn run(
+pub(crate) fn run(
     text: &[u8],
     at: &mut usize,
     ends: Ends,

@@ -33,7 +33,7 @@ fn with_digit(value: u64, byte: u8) -> u64 {
     }
 }
 
-pub fn number(text: &[u8], at: &mut usize) -> u64 {
+pub(crate) fn number(text: &[u8], at: &mut usize) -> u64 {
     let mut value: u64 = 0;
     let mut next = digit_from(text, *at);
     while next < text.len() && is_digit(text[next]) {
@@ -44,11 +44,11 @@ pub fn number(text: &[u8], at: &mut usize) -> u64 {
     value
 }
 
-pub fn word(text: &[u8], at: &mut usize) -> u32 {
+pub(crate) fn word(text: &[u8], at: &mut usize) -> u32 {
     (number(text, at) % 4294967296) as u32
 }
 
-pub fn count(text: &[u8], at: &mut usize) -> usize {
+pub(crate) fn count(text: &[u8], at: &mut usize) -> usize {
     number(text, at) as usize
 }
 
@@ -59,7 +59,7 @@ fn least(a: usize, b: usize) -> usize
 }
 
 // Fills a list from a place in it on with the words that stand after their count, and answers where they end.
-pub fn list(text: &[u8], at: &mut usize, list: &mut [u32], from: usize) -> usize
+pub(crate) fn list(text: &[u8], at: &mut usize, list: &mut [u32], from: usize) -> usize
     ensures { λ r. ⌜ Counts r (now (list .exit)) ⌝ }
 {
     let mut left = number(text, at);
@@ -85,7 +85,7 @@ fn line_end(text: &[u8], from: usize) -> usize
 }
 
 // The next line that is not empty.
-pub fn line<'a>(text: &'a [u8], at: &mut usize) -> &'a [u8] {
+pub(crate) fn line<'a>(text: &'a [u8], at: &mut usize) -> &'a [u8] {
     let mut from = least(*at, text.len());
     while from < text.len() && text[from] == 10 {
         from += 1;

@@ -15,6 +15,6 @@ pub mod ToRefusal
 pub mod OpenedWords
 pub mod ControllerWords
 pub mod Play
-pub mod Effect
+pub mod Accept
 pub mod Blind
 pub mod Sound

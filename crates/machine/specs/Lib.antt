@@ -4,7 +4,7 @@ pub mod Lent
 pub mod Verdict
 pub mod Steps
 pub mod Command
-pub mod Effect
+pub mod Accept
 pub mod Registers
 pub mod Start
 pub mod Run

@@ -1,7 +1,7 @@
 // When a command is turned down. Nothing here writes, and nothing sees a share, an input, a tape word or a received word.
 ghost use mathlib.Core.Path.{_≡_};
-ghost use Prim.Native.Nat.{_-_};
-ghost use lib.ListN.{take};
+ghost use Prim.Native.Nat.{_≤_};
+ghost use lib.ListN.{length, take};
 ghost use lib.Dec.{leb};
 ghost use Rattle.protocols.specs.Place.{count, every};
 ghost use Rattle.protocols.specs.Counts.{due};
@@ -16,6 +16,7 @@ use super::lent::Sizes;
 use super::row;
 use super::row::Row;
 use super::row::Use;
+use protocols::draws;
 use protocols::place::Drawn;
 use protocols::place::Place;
 use protocols::place::Received;
@@ -58,22 +59,29 @@ fn within_lists(p: Place, z: Sizes) -> bool
             & (at_most_drawn(drawn, tapes) & at_most_received(received, lists)))
 }
 
-// Whether the first n kinds are each 1 or 2.
+// Where the first n kinds end, or all of them.
+fn end_of(kinds: &[u32], n: usize) -> usize
+    ensures { λ r. ⌜ (take n (now (kinds .entry)) ≡ take r (now (kinds .entry))) × (r ≤ length (now (kinds .entry))) ⌝ }
+{
+    if n < kinds.len() {
+        return n;
+    }
+    kinds.len()
+}
+
+// Whether the first n kinds are each 1 or 2. (No early way out: so the compiler can test several at once.)
 fn are_kinds(kinds: &[u32], n: usize) -> bool
     ensures { λ r. ⌜ r ≡ areKinds (take n (now (kinds .entry))) ⌝ }
 {
-    let mut i = 0;
-    while i < n {
-        if kinds.len() <= i {
-            return true;
-        }
+    let end = end_of(kinds, n);
+    let mut all = true;
+    let mut i: usize = 0;
+    while i < end {
         let kind = kinds[i];
-        if !((kind == 1) | (kind == 2)) {
-            return false;
-        }
+        all = all & ((kind == 1) | (kind == 2));
         i += 1;
     }
-    true
+    all
 }
 
 // ---- numbers 6 to 9
@@ -133,25 +141,16 @@ fn in_word(x: Row, c: Command) -> bool
 
 // ---- numbers 10 to 13
 
-fn left(size: usize, used: usize) -> usize
-    ensures { λ r. ⌜ r ≡ size - used ⌝ }
-{
-    if used <= size {
-        return size - used;
-    }
-    0
-}
-
 fn tables_have(x: Row, p: Place, z: Sizes) -> bool
     ensures { λ r. ⌜ r ≡ tablesHave x p z ⌝ }
 {
-    x.values <= left(z.one, p.handles)
+    x.values <= draws::left(z.one, p.handles)
 }
 
 fn inputs_have(x: Row, p: Place, z: Sizes) -> bool
     ensures { λ r. ⌜ r ≡ inputsHave x p z ⌝ }
 {
-    x.inputs <= left(z.inputs, p.inputs)
+    x.inputs <= draws::left(z.inputs, p.inputs)
 }
 
 fn tapes_have(x: Row, p: Place, z: Sizes) -> bool
@@ -160,10 +159,10 @@ fn tapes_have(x: Row, p: Place, z: Sizes) -> bool
     let used = p.drawn;
     let size = z.tapes;
     let rest = Drawn {
-        provider: left(size.provider, used.provider),
-        one: left(size.one, used.one),
-        two: left(size.two, used.two),
-        three: left(size.three, used.three),
+        provider: draws::left(size.provider, used.provider),
+        one: draws::left(size.one, used.one),
+        two: draws::left(size.two, used.two),
+        three: draws::left(size.three, used.three),
     };
     let drawn = x.drawn;
     at_most_drawn(drawn, rest)
@@ -175,10 +174,10 @@ fn lists_have(x: Row, p: Place, z: Sizes) -> bool
     let used = p.received;
     let size = z.received;
     let rest = Received {
-        one: left(size.one, used.one),
-        two: left(size.two, used.two),
-        three: left(size.three, used.three),
-        controller: left(size.controller, used.controller),
+        one: draws::left(size.one, used.one),
+        two: draws::left(size.two, used.two),
+        three: draws::left(size.three, used.three),
+        controller: draws::left(size.controller, used.controller),
     };
     let received = x.received;
     at_most_received(received, rest)

@@ -1,9 +1,9 @@
 // The command machine: twelve commands on lent share tables, tapes and received lists.
+mod accept;
 pub mod answer;
-pub mod apply;
 pub mod code;
 pub mod command;
-pub mod effect;
+mod entry;
 pub mod given;
 pub mod judge;
 pub mod lent;

@@ -1,8 +1,8 @@
 // The protocol of each command.
 ghost use mathlib.Core.Path.{_≡_};
-ghost use Rattle.protocols.specs.Place.{tapes, silence};
-ghost use Rattle.protocols.specs.Protocol.{done, perform};
-ghost use Rattle.protocols.specs.Outcome.{outcome};
+ghost use Rattle.protocols.specs.Place.{tapes, lists};
+ghost use Rattle.protocols.specs.Protocol.{perform};
+ghost use Rattle.protocols.specs.Outcome.{delivered, delivery, finished};
 ghost use Rattle.machine.specs.Steps.{protocol};
 use super::code::Code;
 use super::given::Given;
@@ -11,7 +11,6 @@ use protocols::bit;
 use protocols::bits;
 use protocols::equal;
 use protocols::local;
-use protocols::message::Sent;
 use protocols::multiply;
 use protocols::open;
 use protocols::outcome::Outcome;
@@ -22,17 +21,16 @@ use protocols::store;
 
 // Nothing is drawn and nothing sent.
 fn locally(shares: Shares, place: Place) -> Outcome
-    ensures { λ r. ⌜ r ≡ outcome place (done shares silence place) ⌝ }
+    ensures { λ r. ⌜ r ≡ finished shares place ⌝ }
 {
     Outcome {
         number: 0,
         shares,
         place,
-        sent: Sent::new(),
     }
 }
 
-// On the drawn words that follow the place.
+// On the drawn words that follow the place; received words go to the front of each list.
 pub fn play(
     code: Code,
     b: u32,
@@ -42,24 +40,28 @@ pub fn play(
     tape1: &[u32],
     tape2: &[u32],
     tape3: &[u32],
+    list1: &mut [u32],
+    list2: &mut [u32],
+    list3: &mut [u32],
+    controller: &mut [u32],
 ) -> Outcome
-    ensures { λ r. ⌜ r ≡ outcome p (perform (protocol 5 code b) g p (tapes (now (provider .entry)) (now (tape1 .entry)) (now (tape2 .entry)) (now (tape3 .entry)))) ⌝ }
+    ensures { λ r. ⌜ delivered r (lists (now (list1 .exit)) (now (list2 .exit)) (now (list3 .exit)) (now (controller .exit))) ≡ delivery p (perform (protocol 5 code b) g p (tapes (now (provider .entry)) (now (tape1 .entry)) (now (tape2 .entry)) (now (tape3 .entry)))) (lists (now (list1 .entry)) (now (list2 .entry)) (now (list3 .entry)) (now (controller .entry))) ⌝ }
 {
     let input = g.input;
     let u = g.u;
     let v = g.v;
     match code {
-        Code::Store => store::store(input, p, provider),
+        Code::Store => store::store(input, p, provider, list1, list2, list3),
         Code::Add => locally(local::sum(u, v), p),
         Code::Subtract => locally(local::difference(u, v), p),
         Code::AddConstant => locally(local::shifted(u, b), p),
         Code::TimesConstant => locally(local::multiple(u, b), p),
-        Code::Multiply => multiply::multiply(u, v, p, tape1, tape2, tape3),
-        Code::Reshare => reshare::reshare(u, p, tape1, tape2, tape3),
-        Code::Bits => bits::bits(u, p, tape1, tape2, tape3),
-        Code::Bit => bit::bit(u, b, p, tape1),
-        Code::Equal => equal::equal(u, v, p, tape1, tape2, tape3),
-        Code::Open => open::open(u, p, tape1, tape2, tape3),
-        Code::Below => below::below(u, v, p, tape1, tape2, tape3),
+        Code::Multiply => multiply::multiply(u, v, p, tape1, tape2, tape3, list1, list2, list3),
+        Code::Reshare => reshare::reshare(u, p, tape1, tape2, tape3, list1, list2, list3),
+        Code::Bits => bits::bits(u, p, tape1, tape2, tape3, list1, list2, list3),
+        Code::Bit => bit::bit(u, b, p, tape1, list2, list3),
+        Code::Equal => equal::equal(u, v, p, tape1, tape2, tape3, list1, list2, list3),
+        Code::Open => open::open(u, p, tape1, tape2, tape3, list1, list2, list3, controller),
+        Code::Below => below::below(u, v, p, tape1, tape2, tape3, list1, list2, list3),
     }
 }

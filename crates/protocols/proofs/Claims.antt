@@ -7,7 +7,7 @@ use Rattle.protocols.proofs.Laws.RingCombine.{ring-combines}
 use Rattle.protocols.proofs.Laws.BitsCombine.{bits-combine}
 use Rattle.protocols.proofs.Laws.Counts.{table, table-at-32}
 use Rattle.protocols.proofs.Laws.Perform.{on-tapes}
-use Rattle.protocols.proofs.Laws.Messages.{message-holds}
+use Rattle.protocols.proofs.Laws.Deliveries.{delivers}
 use Rattle.protocols.proofs.Laws.Worked.{worked}
 
 pub claims : Claims
@@ -19,6 +19,6 @@ claims = record {
   word-forms = word-forms;
   sources = source-is;
   on-tapes = on-tapes;
-  messages = message-holds;
+  deliveries = delivers;
   worked = worked;
 }

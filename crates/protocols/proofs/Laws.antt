@@ -2,7 +2,8 @@
 pub mod Ring
 pub mod Bitwise
 pub mod Blocks
-pub mod Messages
+pub mod Puts
+pub mod Deliveries
 pub mod Draws
 pub mod Perform
 pub mod Lent

@@ -3,10 +3,9 @@
 use Prim.Native.Nat.{ℕ, suc, _+_, _-_, _*_, _/_, _^_, _≤_, _<_}
 use mathlib.Core.Path.{_≡_}
 use mathlib.Core.Bool.{true, cond}
-use mathlib.Core.List.{List}
+use mathlib.Core.List.{_++_}
 use lib.Dec.{eqb}
-use lib.ListN.{length}
-use lib.Seq.{sets}
+use lib.ListN.{length, drop}
 use Rattle.protocols.specs.declared.place.Party.{Party}
 use Rattle.protocols.specs.declared.place.Drawn.{Drawn}
 use Rattle.protocols.specs.declared.place.Received.{Received}
@@ -14,9 +13,9 @@ use Rattle.protocols.specs.declared.place.Place.{Place}
 use Rattle.protocols.specs.declared.shares.Shares.{Shares}
 use Rattle.protocols.specs.Word.{width, modulus, add, sub, mul, bitAt}
 use Rattle.protocols.specs.Shares.{AreWords, Operands, sumOf, xorOf}
-use Rattle.protocols.specs.Place.{Tapes, tape, count, counts, inOrder, advance, block}
+use Rattle.protocols.specs.Place.{Tapes, tape, Lists, Receiver, list, count, counts, inOrder, advance, block}
 use Rattle.protocols.specs.Protocol.{Protocol, locally, done, spent, perform}
-use Rattle.protocols.specs.Outcome.{message, wordsOf, delivery, delivered}
+use Rattle.protocols.specs.Outcome.{finished, refused, delivered, delivery, fronts}
 use Rattle.protocols.specs.Store.{store}
 use Rattle.protocols.specs.Local.{sum, difference, multiple, shifted}
 use Rattle.protocols.specs.Reshare.{reshare}
@@ -131,12 +130,12 @@ pub record OnTapes {S T : Type 0} (f : Protocol S T) (s : S) (p : Place) (t : Ta
       → let b = block (f .draws) p t in perform f s p t ≡ done (f .result s b) (f .received s b) (advance p (f .draws))
   pub other-tapes : (t′ : Tapes) → ((i : Party) → 0 < count i (f .draws) → tape i t ≡ tape i t′) → perform f s p t ≡ perform f s p t′
 
--- a message holds the words of its list, all of them, where these are at most 28, as in every row at 32 bits
-pub record MessageHolds (l : List ℕ) : Type 0 where
-  pub counted : message l .count ≡ length l
-  pub words : wordsOf (message l) ≡ l
-  -- and they go to the front of a tail that has room for them
-  pub delivers : (tail : List ℕ) → length l ≤ length tail → delivered (message l) tail ≡ delivery true (sets tail 0 l)
+-- The delivery of what a protocol made: number 13 exactly when a list lacks room, and then nothing changes; otherwise every list begins with
+-- its words, and the rest of it is as it was.
+pub record Delivers (p : Place) (l : Lists) (s : Shares) (w : Lists) (q : Place) : Type 0 where
+  pub full-if : (r : Receiver) → length (list r l) < length (list r w) → delivery p (done s w q) l ≡ delivered (refused 13 p) l
+  pub done-if : ((r : Receiver) → length (list r w) ≤ length (list r l)) → delivery p (done s w q) l ≡ delivered (finished s q) (fronts l w)
+  pub begins : ((r : Receiver) → length (list r w) ≤ length (list r l)) → (r : Receiver) → list r (fronts l w) ≡ list r w ++ drop (length (list r w)) (list r l)
 
 -- ---- all of it
 
@@ -148,5 +147,5 @@ pub record Claims : Type 1 where
   pub word-forms : (n k : ℕ) → k < n → WordForms n k
   pub sources : (k j : ℕ) → bitAt j k ≡ 1 → SourceIs k j
   pub on-tapes : {S T : Type 0} (f : Protocol S T) (s : S) (p : Place) (t : Tapes) → OnTapes f s p t
-  pub messages : (l : List ℕ) → length l ≤ 28 → MessageHolds l
+  pub deliveries : (p : Place) (l : Lists) (s : Shares) (w : Lists) (q : Place) → Delivers p l s w q
   pub worked : Worked

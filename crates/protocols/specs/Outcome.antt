@@ -1,79 +1,50 @@
--- What the code answers, as values: each party's words, the outcome of a protocol, and a delivery.
-use Prim.Native.Nat.{ℕ, _+_}
-use mathlib.Core.Bool.{Bool, true, false, cond, _&&_}
-use mathlib.Core.List.{List, [], _∷_}
-use lib.ListN.{length, take, set, replicate}
+-- What the code leaves, as values: the outcome of a protocol, and the lent lists.
+use Prim.Native.Nat.{ℕ}
+use mathlib.Core.Bool.{Bool, cond, _&&_}
+use lib.ListN.{length}
 use lib.Seq.{sets}
 use lib.Dec.{leb}
 use Rattle.protocols.specs.declared.shares.Shares.{Shares}
 use Rattle.protocols.specs.declared.place.Place.{Place}
-use Rattle.protocols.specs.declared.message.Message.{Message}
-use Rattle.protocols.specs.declared.message.Sent.{Sent}
 use Rattle.protocols.specs.declared.outcome.Outcome.{Outcome}
 use Rattle.protocols.specs.Shares.{shares}
-use Rattle.protocols.specs.declared.bits.Dealing.{Dealing}
-use Rattle.protocols.specs.Bits.{deal}
-use Rattle.protocols.specs.Place.{Lists, tapes, silence, tapeSpent}
+use Rattle.protocols.specs.Place.{Lists, lists, tapeSpent}
 use Rattle.protocols.specs.Protocol.{Answer, done, spent}
-
--- ---- messages
-
--- one word more, at the count, where there is room
-unfoldable pub pushed : Message → ℕ → Message
-pushed x w = cond (leb 28 (x .count)) x (record { words = set (x .words) (x .count) w; count = x .count + 1 })
-
-unfoldable pub pushes : Message → List ℕ → Message
-pushes x [] = x
-pushes x (w ∷ l) = pushes (pushed x w) l
-
--- the words of a list, one after the other
-unfoldable pub message : List ℕ → Message
-message = pushes (record { words = replicate 28 0; count = 0 })
-
--- words after words, for each party
-unfoldable pub append : Sent → Lists → Sent
-append x l = record {
-  one = pushes (x .one) (l .one);
-  two = pushes (x .two) (l .two);
-  three = pushes (x .three) (l .three);
-  controller = pushes (x .controller) (l .controller);
-}
-
-unfoldable pub sent : Lists → Sent
-sent l = record { one = message (l .one); two = message (l .two); three = message (l .three); controller = message (l .controller) }
 
 -- ---- an outcome
 
--- each answer by 01's number, with its values: what is turned down leaves the place as it was and sends nothing
-abbrev pub outcome : Place → Answer Shares → Outcome
-outcome p (done s l q) = record { number = 0; shares = s; place = q; sent = sent l }
-outcome p spent = record { number = tapeSpent; shares = shares 0 0 0; place = p; sent = sent silence }
+-- done: the new shares and the moved place
+abbrev pub finished : Shares → Place → Outcome
+finished s q = record { number = 0; shares = s; place = q }
 
--- the same as the last part of a protocol that began at the place p and has sent x
-abbrev pub continued : Place → Sent → Answer Shares → Outcome
-continued p x (done s l q) = record { number = 0; shares = s; place = q; sent = append x l }
-continued p x spent = record { number = tapeSpent; shares = shares 0 0 0; place = p; sent = sent silence }
+-- turned down with one of 01's numbers: the place as it was, and nothing else
+abbrev pub refused : ℕ → Place → Outcome
+refused r p = record { number = r; shares = shares 0 0 0; place = p }
 
--- the dealing of Bits, with the words sent in it, from the words that miner 1 drew
-abbrev pub dealing : ℕ → Shares → ℕ → ℕ → ℕ → Dealing
-dealing n u r a b =
-    let t = tapes [] (r ∷ a ∷ b ∷ []) [] [] in
-    record { dealt = deal n .result u t; sent = sent (deal n .received u t) }
+-- 01, 'When a call is turned down': number 13, 'any received list has fewer words left than needed'
+abbrev pub listFull : ℕ
+listFull = 13
 
--- ---- a delivery
+-- ---- and the lists
 
--- the words of a message
-abbrev pub wordsOf : Message → List ℕ
-wordsOf x = take (x .count) (x .words)
+pub record Delivered : Type 0 where
+  pub outcome : Outcome
+  pub lists : Lists
 
--- whether the words were written, and what the list then holds
-pub record Delivery : Type 0 where
-  pub written : Bool
-  pub list : List ℕ
+abbrev pub delivered : Outcome → Lists → Delivered
+delivered r l = record { outcome = r; lists = l }
 
-abbrev pub delivery : Bool → List ℕ → Delivery
-delivery b l = record { written = b; list = l }
+-- each list has room for the words that are for it
+abbrev pub room : Lists → Lists → Bool
+room l w =
+    leb (length (w .controller)) (length (l .controller)) &&
+    (leb (length (w .one)) (length (l .one)) && (leb (length (w .two)) (length (l .two)) && leb (length (w .three)) (length (l .three))))
 
--- 01: 'Received words go only into the unfilled part of a lent list'
-unfoldable pub delivered : Message → List ℕ → Delivery
-delivered x tail = cond (leb (x .count) 28 && leb (x .count) (length tail)) (delivery true (sets tail 0 (wordsOf x))) (delivery false tail)
+-- 01: 'Received words go only into the unfilled part of a lent list'. That part is lent here, and the words go to its front.
+abbrev pub fronts : Lists → Lists → Lists
+fronts l w = lists (sets (l .one) 0 (w .one)) (sets (l .two) 0 (w .two)) (sets (l .three) 0 (w .three)) (sets (l .controller) 0 (w .controller))
+
+-- each answer by 01's number, with its values: what is turned down leaves the place and every list as it was
+abbrev pub delivery : Place → Answer Shares → Lists → Delivered
+delivery p (done s w q) l = cond (room l w) (delivered (finished s q) (fronts l w)) (delivered (refused listFull p) l)
+delivery p spent l = delivered (refused tapeSpent p) l

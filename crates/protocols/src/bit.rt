@@ -3,13 +3,13 @@ ghost use mathlib.Core.Path.{_≡_};
 ghost use mathlib.Core.List.{[], _∷_};
 ghost use Rattle.protocols.specs.Word.{modulus, bitAt, low, sub, choose};
 ghost use Rattle.protocols.specs.Shares.{shares};
-ghost use Rattle.protocols.specs.Place.{tapes};
+ghost use Rattle.protocols.specs.Place.{tapes, lists};
 ghost use Rattle.protocols.specs.Protocol.{perform};
-ghost use Rattle.protocols.specs.Outcome.{outcome, continued};
+ghost use Rattle.protocols.specs.Outcome.{delivered, delivery};
 ghost use Rattle.protocols.specs.Bit as spec;
 use super::draws;
 use super::draws::Triple;
-use super::message::Sent;
+use super::list;
 use super::outcome::Outcome;
 use super::place::Place;
 use super::ring;
@@ -61,19 +61,22 @@ fn converted(s: u32, a: u32, b: u32) -> Shares
 }
 
 // Bit j of a bit word as a ring value.
-pub fn bit(u: Shares, j: u32, place: Place, tape1: &[u32]) -> Outcome
-    ensures { λ r. ⌜ r ≡ outcome place (perform (spec.bit (modulus 5) j) u place (tapes [] (now (tape1 .entry)) [] [])) ⌝ }
-{
-    bit_after(u, j, place, tape1, place, Sent::new())
-}
-
-// The same as the last part of a protocol that began at `from` and has sent `sent`.
-pub fn bit_after(u: Shares, j: u32, place: Place, tape1: &[u32], from: Place, sent: Sent) -> Outcome
-    ensures { λ r. ⌜ r ≡ continued from sent (perform (spec.bit (modulus 5) j) u place (tapes [] (now (tape1 .entry)) [] [])) ⌝ }
+pub fn bit(
+    u: Shares,
+    j: u32,
+    place: Place,
+    tape1: &[u32],
+    list2: &mut [u32],
+    list3: &mut [u32],
+) -> Outcome
+    ensures { λ r. ⌜ delivered r (lists [] (now (list2 .exit)) (now (list3 .exit)) []) ≡ delivery place (perform (spec.bit (modulus 5) j) u place (tapes [] (now (tape1 .entry)) [] [])) (lists [] (now (list2 .entry)) (now (list3 .entry)) []) ⌝ }
 {
     let Triple::Words(word_b, m12, word_b12, next) = draws::draw_triple(place, tape1) else {
-        return Outcome::spent(from);
+        return Outcome::refused(12, place);
     };
+    if !list::have_room(0, 3, 3, &[], list2, list3) {
+        return Outcome::refused(13, place);
+    }
     let v = bits_at(u, j);
     let b = low_bit(word_b);
     let b12 = low_bit(word_b12);
@@ -81,12 +84,11 @@ pub fn bit_after(u: Shares, j: u32, place: Place, tape1: &[u32], from: Place, se
     let b13 = b ^ b12;
     let s23 = b12 ^ v.two;
     let s32 = b13 ^ v.three;
+    list::put(list2, 0, &[m12, b12, s32]);
+    list::put(list3, 0, &[m13, b13, s23]);
     Outcome {
         number: 0,
         shares: converted(s23 ^ s32, m12, m13),
         place: next,
-        sent: sent.to_two_three(m12, m13)
-            .to_two_three(b12, b13)
-            .to_two_three(s32, s23),
     }
 }

@@ -1,18 +1,21 @@
 // Bits.
 ghost use mathlib.Core.Path.{_≡_};
-ghost use mathlib.Core.List.{[]};
-ghost use Prim.Native.Nat.{_<_};
+ghost use mathlib.Core.Bool.{true};
+ghost use mathlib.Core.List.{[], _∷_};
+ghost use Prim.Native.Nat.{_+_, _<_, _≤_};
+ghost use lib.ListN.{length};
+ghost use lib.Seq.{sets};
 ghost use Rattle.protocols.specs.Word.{modulus, width};
-ghost use Rattle.protocols.specs.Place.{tapes};
+ghost use Rattle.protocols.specs.Place.{tapes, lists, enough};
 ghost use Rattle.protocols.specs.Protocol.{perform};
-ghost use Rattle.protocols.specs.Outcome.{outcome, dealing};
+ghost use Rattle.protocols.specs.Outcome.{delivered, delivery};
 ghost use Rattle.protocols.specs.WordForm as word;
 ghost use Rattle.protocols.specs.Bits as spec;
 use super::draws;
 use super::draws::Pairs;
 use super::draws::Triple;
+use super::list;
 use super::masked;
-use super::message::Sent;
 use super::outcome::Outcome;
 use super::place::Place;
 use super::ring;
@@ -24,12 +27,6 @@ pub struct Dealt {
     pub s: Shares,
     pub v2: u32,
     pub v3: u32,
-}
-
-// The dealing, with the words that miners 2 and 3 receive in it.
-pub struct Dealing {
-    pub dealt: Dealt,
-    pub sent: Sent,
 }
 
 // What the miners hold before a round: p and s, its masks q and t, and the shares that the result takes up again.
@@ -59,28 +56,28 @@ const CLEAR: [u32; 5] = [
 ];
 
 // Each source's bit at every position that takes from it in round k.
-fn spread(x: u32, k: u32) -> u32
-    requires { ⌜ k < 5 ⌝ }
+fn spread(k: u32, sources: u32, x: u32) -> u32
+    requires { ⌜ (k < 5) × (sources ≡ word.sources 5 k) ⌝ }
     ensures { λ r. ⌜ r ≡ word.spread 5 k x ⌝ }
 {
-    let t = x & SOURCES[k as usize];
+    let t = x & sources;
     ((t << (1u32 << k)) - t) << 1
 }
 
 // A miner's s after round k, from its own masked shares p, s and the previous miner's x, y.
-fn round_s(k: u32, p: u32, x: u32, s: u32, y: u32) -> u32
-    requires { ⌜ k < 5 ⌝ }
+fn round_s(k: u32, sources: u32, p: u32, x: u32, s: u32, y: u32) -> u32
+    requires { ⌜ (k < 5) × (sources ≡ word.sources 5 k) ⌝ }
     ensures { λ r. ⌜ r ≡ spec.roundS (width 5) k p x s y ⌝ }
 {
-    s ^ masked::and_share(p, x, spread(s, k), spread(y, k))
+    s ^ masked::and_share(p, x, spread(k, sources, s), spread(k, sources, y))
 }
 
 // A miner's p after round k.
-fn round_p(k: u32, p: u32, x: u32) -> u32
-    requires { ⌜ k < 5 ⌝ }
+fn round_p(k: u32, sources: u32, clear: u32, p: u32, x: u32) -> u32
+    requires { ⌜ (k < 5) × (sources ≡ word.sources 5 k) × (clear ≡ word.clear 5 k) ⌝ }
     ensures { λ r. ⌜ r ≡ spec.roundP (width 5) k p x ⌝ }
 {
-    (p & CLEAR[k as usize]) ^ masked::and_share(p, x, spread(p, k), spread(x, k))
+    (p & clear) ^ masked::and_share(p, x, spread(k, sources, p), spread(k, sources, x))
 }
 
 // Round k on every miner's masked shares, with the masks of the next round.
@@ -88,16 +85,18 @@ fn carried(k: u32, p: Shares, s: Shares, q: Shares, t: Shares, base: Shares) -> 
     requires { ⌜ k < 5 ⌝ }
     ensures { λ r. ⌜ r ≡ spec.carried (width 5) k p s q t base ⌝ }
 {
+    let sources = SOURCES[k as usize];
+    let clear = CLEAR[k as usize];
     Held {
         p: Shares {
-            one: round_p(k, p.one, p.three),
-            two: round_p(k, p.two, p.one),
-            three: round_p(k, p.three, p.two),
+            one: round_p(k, sources, clear, p.one, p.three),
+            two: round_p(k, sources, clear, p.two, p.one),
+            three: round_p(k, sources, clear, p.three, p.two),
         },
         s: Shares {
-            one: round_s(k, p.one, p.three, s.one, s.three),
-            two: round_s(k, p.two, p.one, s.two, s.one),
-            three: round_s(k, p.three, p.two, s.three, s.two),
+            one: round_s(k, sources, p.one, p.three, s.one, s.three),
+            two: round_s(k, sources, p.two, p.one, s.two, s.one),
+            three: round_s(k, sources, p.three, p.two, s.three, s.two),
         },
         q,
         t,
@@ -123,18 +122,6 @@ fn start(v2: u32, v3: u32, bar2: u32, bar3: u32) -> Dealt
         },
         v2,
         v3,
-    }
-}
-
-// The dealing, from the words that miner 1 drew. (bar2, bar3 are document 01's R2, R3.)
-fn deal(u: Shares, r: u32, r2: u32, bar2: u32) -> Dealing
-    ensures { λ d. ⌜ d ≡ dealing 5 u r r2 bar2 ⌝ }
-{
-    let r3 = ring::sub(ring::sub(u.one, r), r2);
-    let bar3 = r ^ bar2;
-    Dealing {
-        dealt: start(ring::add(u.two, r2), ring::add(u.three, r3), bar2, bar3),
-        sent: Sent::new().to_two_three(r2, r3).to_two_three(bar2, bar3),
     }
 }
 
@@ -164,30 +151,53 @@ fn joined(h: Held) -> Shares
     }
 }
 
-// The bits of a ring value, as a bit word.
-pub fn bits(u: Shares, place: Place, tape1: &[u32], tape2: &[u32], tape3: &[u32]) -> Outcome
-    ensures { λ r. ⌜ r ≡ outcome place (perform (spec.bits 5) u place (tapes [] (now (tape1 .entry)) (now (tape2 .entry)) (now (tape3 .entry)))) ⌝ }
+// The four words of round k, at their place in a miner's list.
+fn put_round(list: &mut [u32], at: usize, p: u32, s: u32, q: u32, t: u32)
+    requires { ⌜ at + 4 ≤ length (now list) ⌝ }
+    ensures { λ _. ⌜ now (list .exit) ≡ sets (now (list .entry)) at (p ∷ s ∷ q ∷ t ∷ []) ⌝ }
+{
+    list::put(list, at, &[p, s, q, t]);
+}
+
+// The dealing and the rounds, where every tape and list has enough. (bar2, bar3 are document 01's R2, R3.)
+pub(crate) fn rounds(
+    u: Shares,
+    place: Place,
+    tape1: &[u32],
+    tape2: &[u32],
+    tape3: &[u32],
+    list1: &mut [u32],
+    list2: &mut [u32],
+    list3: &mut [u32],
+) -> Outcome
+    requires { ⌜ (enough (spec.bits 5 .draws) place (tapes [] (now tape1) (now tape2) (now tape3)) ≡ true) × (22 ≤ length (now list1)) × (25 ≤ length (now list2)) × (25 ≤ length (now list3)) ⌝ }
+    ensures { λ r. ⌜ delivered r (lists (now (list1 .exit)) (now (list2 .exit)) (now (list3 .exit)) []) ≡ delivery place (perform (spec.bits 5) u place (tapes [] (now (tape1 .entry)) (now (tape2 .entry)) (now (tape3 .entry)))) (lists (now (list1 .entry)) (now (list2 .entry)) (now (list3 .entry)) []) ⌝ }
 {
     let Triple::Words(r, r2, bar2, dealt_at) = draws::draw_triple(place, tape1) else {
-        return Outcome::spent(place);
+        return Outcome::refused(12, place);
     };
     let Pairs::Words(q, t, begun_at) = draws::draw_pairs(dealt_at, tape1, tape2, tape3) else {
-        return Outcome::spent(place);
+        return Outcome::refused(12, place);
     };
-    let dealing = deal(u, r, r2, bar2);
-    let dealt = dealing.dealt;
-    let mut sent = dealing.sent;
-    sent = sent.to_next(q).to_next(t).to_two_three(dealt.v3, dealt.v2);
+    let r3 = ring::sub(ring::sub(u.one, r), r2);
+    let bar3 = r ^ bar2;
+    let dealt = start(ring::add(u.two, r2), ring::add(u.three, r3), bar2, bar3);
+    list::put(list1, 0, &[q.three, t.three]);
+    list::put(list2, 0, &[r2, bar2, q.one, t.one, dealt.v3]);
+    list::put(list3, 0, &[r3, bar3, q.two, t.two, dealt.v2]);
     let mut held = begun(dealt, q, t);
     let mut at = begun_at;
     let mut k: u32 = 0;
     while k < 5 {
         let Pairs::Words(q, t, next) = draws::draw_pairs(at, tape1, tape2, tape3) else {
-            return Outcome::spent(place);
+            return Outcome::refused(12, place);
         };
         let p = masked::masked(held.p, held.q);
         let s = masked::masked(held.s, held.t);
-        sent = sent.to_next(p).to_next(s).to_next(q).to_next(t);
+        let sent = 4 * k as usize;
+        put_round(list1, 2 + sent, p.three, s.three, q.three, t.three);
+        put_round(list2, 5 + sent, p.one, s.one, q.one, t.one);
+        put_round(list3, 5 + sent, p.two, s.two, q.two, t.two);
         held = carried(k, p, s, q, t, held.base);
         at = next;
         k += 1;
@@ -196,6 +206,27 @@ pub fn bits(u: Shares, place: Place, tape1: &[u32], tape2: &[u32], tape3: &[u32]
         number: 0,
         shares: joined(held),
         place: at,
-        sent,
     }
+}
+
+// The bits of a ring value, as a bit word.
+pub fn bits(
+    u: Shares,
+    place: Place,
+    tape1: &[u32],
+    tape2: &[u32],
+    tape3: &[u32],
+    list1: &mut [u32],
+    list2: &mut [u32],
+    list3: &mut [u32],
+) -> Outcome
+    ensures { λ r. ⌜ delivered r (lists (now (list1 .exit)) (now (list2 .exit)) (now (list3 .exit)) []) ≡ delivery place (perform (spec.bits 5) u place (tapes [] (now (tape1 .entry)) (now (tape2 .entry)) (now (tape3 .entry)))) (lists (now (list1 .entry)) (now (list2 .entry)) (now (list3 .entry)) []) ⌝ }
+{
+    if !draws::are_enough(place, 15, 12, 12, tape1, tape2, tape3) {
+        return Outcome::refused(12, place);
+    }
+    if !list::have_room(22, 25, 25, list1, list2, list3) {
+        return Outcome::refused(13, place);
+    }
+    rounds(u, place, tape1, tape2, tape3, list1, list2, list3)
 }

@@ -1,7 +1,8 @@
 // Several draws at once: by each miner, or by one party.
 ghost use mathlib.Core.Path.{_≡_};
 ghost use mathlib.Core.List.{[]};
-ghost use Rattle.protocols.specs.Place.{tapes};
+ghost use Prim.Native.Nat.{_-_};
+ghost use Rattle.protocols.specs.Place.{tapes, counts, enough};
 ghost use Rattle.protocols.specs.Draws.{drawEach, drawPairs, drawTriple, drawDouble};
 use super::place::Draw;
 use super::place::Party;
@@ -30,6 +31,33 @@ pub enum Triple {
 pub enum Double {
     Words(u32, u32, Place),
     Spent,
+}
+
+// What is left of a list after so many words.
+pub fn left(size: usize, used: usize) -> usize
+    ensures { λ r. ⌜ r ≡ size - used ⌝ }
+{
+    if used <= size {
+        return size - used;
+    }
+    0
+}
+
+// Whether the miners' tapes have so many words left.
+pub(crate) fn are_enough(
+    place: Place,
+    one: usize,
+    two: usize,
+    three: usize,
+    tape1: &[u32],
+    tape2: &[u32],
+    tape3: &[u32],
+) -> bool
+    ensures { λ r. ⌜ r ≡ enough (counts 0 one two three) place (tapes [] (now (tape1 .entry)) (now (tape2 .entry)) (now (tape3 .entry))) ⌝ }
+{
+    let drawn = place.drawn;
+    (one <= left(tape1.len(), drawn.one))
+        & ((two <= left(tape2.len(), drawn.two)) & (three <= left(tape3.len(), drawn.three)))
 }
 
 pub fn draw_each(place: Place, tape1: &[u32], tape2: &[u32], tape3: &[u32]) -> Each

@@ -1,19 +1,22 @@
 // Equal.
 ghost use mathlib.Core.Path.{_≡_};
+ghost use mathlib.Core.Bool.{true};
 ghost use mathlib.Core.List.{[]};
-ghost use Prim.Native.Nat.{_<_};
+ghost use Prim.Native.Nat.{_<_, _≤_};
+ghost use lib.ListN.{length};
 ghost use Rattle.protocols.specs.Word.{modulus, width};
 ghost use Rattle.protocols.specs.Shares.{operands};
-ghost use Rattle.protocols.specs.Place.{tapes};
+ghost use Rattle.protocols.specs.Place.{tapes, lists, enough};
 ghost use Rattle.protocols.specs.Protocol.{perform};
-ghost use Rattle.protocols.specs.Outcome.{outcome};
+ghost use Rattle.protocols.specs.Outcome.{delivered, delivery};
+ghost use Rattle.protocols.specs.WordForm as word;
 ghost use Rattle.protocols.specs.Equal as spec;
 use super::bit;
 use super::draws;
 use super::draws::Each;
+use super::list;
 use super::local;
 use super::masked;
-use super::message::Sent;
 use super::outcome::Outcome;
 use super::place::Draw;
 use super::place::Party;
@@ -45,13 +48,12 @@ const OTHERS: [u32; 5] = [
 ];
 
 // A miner's p after round k, from its own masked share and the previous miner's.
-fn fold_share(k: u32, p: u32, x: u32) -> u32
-    requires { ⌜ k < 5 ⌝ }
+fn fold_share(k: u32, heads: u32, others: u32, p: u32, x: u32) -> u32
+    requires { ⌜ (k < 5) × (heads ≡ word.heads 5 k) × (others ≡ word.others 5 k) ⌝ }
     ensures { λ r. ⌜ r ≡ spec.foldShare (width 5) k p x ⌝ }
 {
     let stride = 1u32 << k;
-    let heads = HEADS[k as usize];
-    (p & OTHERS[k as usize]) ^ masked::and_share(p, x, (p >> stride) & heads, (x >> stride) & heads)
+    (p & others) ^ masked::and_share(p, x, (p >> stride) & heads, (x >> stride) & heads)
 }
 
 // Round k on every miner's masked shares, with the masks of the next round.
@@ -59,11 +61,13 @@ fn folded(k: u32, p: Shares, q: Shares) -> Folding
     requires { ⌜ k < 5 ⌝ }
     ensures { λ r. ⌜ r ≡ spec.folded (width 5) k p q ⌝ }
 {
+    let heads = HEADS[k as usize];
+    let others = OTHERS[k as usize];
     Folding {
         p: Shares {
-            one: fold_share(k, p.one, p.three),
-            two: fold_share(k, p.two, p.one),
-            three: fold_share(k, p.three, p.two),
+            one: fold_share(k, heads, others, p.one, p.three),
+            two: fold_share(k, heads, others, p.two, p.one),
+            three: fold_share(k, heads, others, p.three, p.two),
         },
         q,
     }
@@ -80,6 +84,54 @@ fn compared(d: Shares, r2: u32, r3: u32) -> Shares
     }
 }
 
+// The folds and Bit, where every tape and list has enough.
+fn folds(
+    u: Shares,
+    v: Shares,
+    place: Place,
+    tape1: &[u32],
+    tape2: &[u32],
+    tape3: &[u32],
+    list1: &mut [u32],
+    list2: &mut [u32],
+    list3: &mut [u32],
+) -> Outcome
+    requires { ⌜ (enough (spec.equal 5 .draws) place (tapes [] (now tape1) (now tape2) (now tape3)) ≡ true) × (11 ≤ length (now list1)) × (15 ≤ length (now list2)) × (15 ≤ length (now list3)) ⌝ }
+    ensures { λ r. ⌜ delivered r (lists (now (list1 .exit)) (now (list2 .exit)) (now (list3 .exit)) []) ≡ delivery place (perform (spec.equal 5) (operands u v) place (tapes [] (now (tape1 .entry)) (now (tape2 .entry)) (now (tape3 .entry)))) (lists (now (list1 .entry)) (now (list2 .entry)) (now (list3 .entry)) []) ⌝ }
+{
+    let Draw::Word(r2, compared_at) = place.draw(Party::One, tape1) else {
+        return Outcome::refused(12, place);
+    };
+    let Each::Words(q, begun_at) = draws::draw_each(compared_at, tape1, tape2, tape3) else {
+        return Outcome::refused(12, place);
+    };
+    let d = local::difference(u, v);
+    let r3 = ring::sub(d.one, r2);
+    list::put(list1, 0, &[q.three]);
+    list::put(list2, 0, &[r2, q.one]);
+    list::put(list3, 0, &[r3, q.two]);
+    let mut held = Folding {
+        p: compared(d, r2, r3),
+        q,
+    };
+    let mut at = begun_at;
+    let mut k: u32 = 0;
+    while k < 5 {
+        let Each::Words(q, next) = draws::draw_each(at, tape1, tape2, tape3) else {
+            return Outcome::refused(12, place);
+        };
+        let p = masked::masked(held.p, held.q);
+        let sent = 2 * k as usize;
+        list::put(list1, 1 + sent, &[p.three, q.three]);
+        list::put(list2, 2 + sent, &[p.one, q.one]);
+        list::put(list3, 2 + sent, &[p.two, q.two]);
+        held = folded(k, p, q);
+        at = next;
+        k += 1;
+    }
+    bit::bit(held.p, 0, at, tape1, &mut list2[12..], &mut list3[12..])
+}
+
 // 1 if u and v are equal, else 0.
 pub fn equal(
     u: Shares,
@@ -88,31 +140,17 @@ pub fn equal(
     tape1: &[u32],
     tape2: &[u32],
     tape3: &[u32],
+    list1: &mut [u32],
+    list2: &mut [u32],
+    list3: &mut [u32],
 ) -> Outcome
-    ensures { λ r. ⌜ r ≡ outcome place (perform (spec.equal 5) (operands u v) place (tapes [] (now (tape1 .entry)) (now (tape2 .entry)) (now (tape3 .entry)))) ⌝ }
+    ensures { λ r. ⌜ delivered r (lists (now (list1 .exit)) (now (list2 .exit)) (now (list3 .exit)) []) ≡ delivery place (perform (spec.equal 5) (operands u v) place (tapes [] (now (tape1 .entry)) (now (tape2 .entry)) (now (tape3 .entry)))) (lists (now (list1 .entry)) (now (list2 .entry)) (now (list3 .entry)) []) ⌝ }
 {
-    let Draw::Word(r2, compared_at) = place.draw(Party::One, tape1) else {
-        return Outcome::spent(place);
-    };
-    let Each::Words(q, begun_at) = draws::draw_each(compared_at, tape1, tape2, tape3) else {
-        return Outcome::spent(place);
-    };
-    let d = local::difference(u, v);
-    let r3 = ring::sub(d.one, r2);
-    let p = compared(d, r2, r3);
-    let mut held = Folding { p, q };
-    let mut sent = Sent::new().to_two_three(r2, r3).to_next(q);
-    let mut at = begun_at;
-    let mut k: u32 = 0;
-    while k < 5 {
-        let Each::Words(q, next) = draws::draw_each(at, tape1, tape2, tape3) else {
-            return Outcome::spent(place);
-        };
-        let p = masked::masked(held.p, held.q);
-        sent = sent.to_next(p).to_next(q);
-        held = folded(k, p, q);
-        at = next;
-        k += 1;
+    if !draws::are_enough(place, 10, 6, 6, tape1, tape2, tape3) {
+        return Outcome::refused(12, place);
     }
-    bit::bit_after(held.p, 0, at, tape1, place, sent)
+    if !list::have_room(11, 15, 15, list1, list2, list3) {
+        return Outcome::refused(13, place);
+    }
+    folds(u, v, place, tape1, tape2, tape3, list1, list2, list3)
 }

@@ -3,13 +3,13 @@ ghost use mathlib.Core.Path.{_≡_};
 ghost use mathlib.Core.List.{[]};
 ghost use Rattle.protocols.specs.Word.{modulus};
 ghost use Rattle.protocols.specs.Shares.{operands};
-ghost use Rattle.protocols.specs.Place.{tapes};
+ghost use Rattle.protocols.specs.Place.{tapes, lists};
 ghost use Rattle.protocols.specs.Protocol.{perform};
-ghost use Rattle.protocols.specs.Outcome.{outcome};
+ghost use Rattle.protocols.specs.Outcome.{delivered, delivery};
 ghost use Rattle.protocols.specs.Multiply as spec;
 use super::draws;
 use super::draws::Pairs;
-use super::message::Sent;
+use super::list;
 use super::outcome::Outcome;
 use super::place::Place;
 use super::reshare;
@@ -41,22 +41,26 @@ pub fn multiply(
     tape1: &[u32],
     tape2: &[u32],
     tape3: &[u32],
+    list1: &mut [u32],
+    list2: &mut [u32],
+    list3: &mut [u32],
 ) -> Outcome
-    ensures { λ r. ⌜ r ≡ outcome place (perform (spec.multiply (modulus 5)) (operands u v) place (tapes [] (now (tape1 .entry)) (now (tape2 .entry)) (now (tape3 .entry)))) ⌝ }
+    ensures { λ r. ⌜ delivered r (lists (now (list1 .exit)) (now (list2 .exit)) (now (list3 .exit)) []) ≡ delivery place (perform (spec.multiply (modulus 5)) (operands u v) place (tapes [] (now (tape1 .entry)) (now (tape2 .entry)) (now (tape3 .entry)))) (lists (now (list1 .entry)) (now (list2 .entry)) (now (list3 .entry)) []) ⌝ }
 {
     let Pairs::Words(r, s, next) = draws::draw_pairs(place, tape1, tape2, tape3) else {
-        return Outcome::spent(place);
+        return Outcome::refused(12, place);
     };
-    let masked_u = reshare::fresh(u, r);
-    let masked_v = reshare::fresh(v, s);
+    if !list::have_room(4, 4, 4, list1, list2, list3) {
+        return Outcome::refused(13, place);
+    }
+    let x = reshare::fresh(u, r);
+    let y = reshare::fresh(v, s);
+    list::put(list1, 0, &[r.three, s.three, x.three, y.three]);
+    list::put(list2, 0, &[r.one, s.one, x.one, y.one]);
+    list::put(list3, 0, &[r.two, s.two, x.two, y.two]);
     Outcome {
         number: 0,
-        shares: product(masked_u, masked_v),
+        shares: product(x, y),
         place: next,
-        sent: Sent::new()
-            .to_next(r)
-            .to_next(s)
-            .to_next(masked_u)
-            .to_next(masked_v),
     }
 }

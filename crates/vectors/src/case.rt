@@ -1,16 +1,17 @@
 // Generated cases: operands, a place that has moved on already, and tapes.
+use crate::lists;
+use crate::lists::Delivered;
 use crate::print;
 use crate::protocol;
 use crate::protocol::Operands;
 use crate::protocol::Protocol;
 use crate::words;
-use protocols::outcome::Outcome;
 use protocols::place::Drawn;
 use protocols::place::Place;
 use protocols::place::Received;
 use protocols::shares::Shares;
 
-// How many words of the provider's tape and of those of miners 1 to 3 are lent.
+// How many words are lent of the tapes of the provider and miners 1 to 3, or of the lists of miners 1 to 3 and the controller.
 pub struct Lent(pub usize, pub usize, pub usize, pub usize);
 
 // A case, and where the generator is for its tapes.
@@ -21,9 +22,9 @@ pub struct Case {
     pub next: u32,
 }
 
-// An outcome, and where the generator is after the tapes.
+// An outcome with the lists, and where the generator is after the tapes.
 pub struct Performed {
-    pub outcome: Outcome,
+    pub delivered: Delivered,
     pub next: u32,
 }
 
@@ -64,7 +65,7 @@ fn operands(protocol: Protocol, words: &[u32; 21]) -> Operands {
 }
 
 // The place record: filled handles, inputs used, words drawn from each tape, words in each received list.
-pub fn record(counts: [usize; 10]) -> Place {
+pub(crate) fn record(counts: [usize; 10]) -> Place {
     let drawn = Drawn {
         provider: counts[2],
         one: counts[3],
@@ -119,7 +120,7 @@ fn cut(protocol: Protocol, words: &[u32; 21]) -> Lent {
 }
 
 // The next case of a protocol.
-pub fn generated(protocol: Protocol, from: u32) -> Case {
+pub(crate) fn generated(protocol: Protocol, from: u32) -> Case {
     let mut words = [0u32; 21];
     let next = words::fill(&mut words, from);
     Case {
@@ -138,8 +139,20 @@ fn front(tape: &[u32], count: usize) -> &[u32] {
     tape
 }
 
-// Performs a protocol on tapes of the next words, 32 to each, cut to what is lent.
-pub fn perform(protocol: Protocol, x: Operands, place: Place, lent: Lent, from: u32) -> Performed {
+// All the words of the four tapes, or of the four lists.
+pub(crate) fn whole() -> Lent {
+    Lent(32, 32, 32, 32)
+}
+
+// Performs a protocol on tapes of the next words, 32 to each, cut to what is lent, and on lists with so much room.
+pub(crate) fn perform(
+    protocol: Protocol,
+    x: Operands,
+    place: Place,
+    lent: Lent,
+    room: Lent,
+    from: u32,
+) -> Performed {
     let mut provider = [0u32; 32];
     let mut tape1 = [0u32; 32];
     let mut tape2 = [0u32; 32];
@@ -148,29 +161,30 @@ pub fn perform(protocol: Protocol, x: Operands, place: Place, lent: Lent, from: 
     let two = words::fill(&mut tape1, one);
     let three = words::fill(&mut tape2, two);
     let next = words::fill(&mut tape3, three);
-    let outcome = protocol::perform(
+    let delivered = lists::perform(
         protocol,
         x,
         place,
+        room,
         front(&provider, lent.0),
         front(&tape1, lent.1),
         front(&tape2, lent.2),
         front(&tape3, lent.3),
     );
-    Performed { outcome, next }
+    Performed { delivered, next }
 }
 
 // Prints a case in full, and answers where the generator is then.
-pub fn printed(label: &[u8], protocol: Protocol, from: u32) -> u32 {
+pub(crate) fn printed(label: &[u8], protocol: Protocol, from: u32) -> u32 {
     let case = generated(protocol, from);
     let x = case.operands;
-    let performed = perform(protocol, x, case.place, Lent(32, 32, 32, 32), case.next);
-    let outcome = performed.outcome;
+    let performed = perform(protocol, x, case.place, whole(), whole(), case.next);
+    let delivered = performed.delivered;
     print::text(label);
-    print::case(protocol, x, outcome);
+    print::case(protocol, x, delivered.outcome);
     print::text(b"\n");
     if protocol::draws(protocol) {
-        print::moved(outcome);
+        print::moved(delivered);
     }
     performed.next
 }

@@ -1,9 +1,10 @@
 // Two hundred generated cases of a protocol as one number: h becomes 31 h + word for each word of each outcome.
 use crate::case;
+use crate::lists;
+use crate::lists::Delivered;
+use crate::lists::List;
 use crate::print;
 use crate::protocol::Protocol;
-use protocols::message::Message;
-use protocols::outcome::Outcome;
 use protocols::place::Place;
 use protocols::shares::Shares;
 
@@ -29,36 +30,36 @@ fn place(h: u32, place: Place) -> u32 {
     count(count(d, received.three), received.controller)
 }
 
-// How many words there are, then the words.
-fn message(h: u32, message: Message) -> u32 {
-    let list = message.words;
-    let n = message.count;
+// How many words were received, then the words.
+fn received(h: u32, list: List) -> u32 {
+    let words = list.words;
+    let n = lists::received(list);
     let mut x = count(h, n);
     let mut i = 0;
-    while i < n && i < 28 {
-        x = word(x, list[i]);
+    while i < n && i < 32 {
+        x = word(x, words[i]);
         i += 1;
     }
     x
 }
 
-fn outcome(h: u32, outcome: Outcome) -> u32 {
-    let sent = outcome.sent;
+fn outcome(h: u32, delivered: Delivered) -> u32 {
+    let outcome = delivered.outcome;
     let a = shares(word(h, outcome.number), outcome.shares);
     let b = place(a, outcome.place);
-    let c = message(message(b, sent.one), sent.two);
-    message(message(c, sent.three), sent.controller)
+    let c = received(received(b, delivered.one), delivered.two);
+    received(received(c, delivered.three), delivered.controller)
 }
 
 // Tapes are cut, so that some of the outcomes are not done. Answers where the generator is then.
-pub fn printed(protocol: Protocol, from: u32) -> u32 {
+pub(crate) fn printed(protocol: Protocol, from: u32) -> u32 {
     let mut next = from;
     let mut h: u32 = 0;
     let mut k: u32 = 0;
     while k < 200 {
         let c = case::generated(protocol, next);
-        let p = case::perform(protocol, c.operands, c.place, c.lent, c.next);
-        h = outcome(h, p.outcome);
+        let p = case::perform(protocol, c.operands, c.place, c.lent, case::whole(), c.next);
+        h = outcome(h, p.delivered);
         next = p.next;
         k += 1;
     }

@@ -2,6 +2,7 @@
 mod case;
 mod checksum;
 mod delivery;
+mod lists;
 mod print;
 mod protocol;
 mod short;
@@ -10,13 +11,14 @@ mod worked;
 
 use protocol::Protocol;
 
-// A protocol's generated cases: three in full, the tapes that end too soon, and two hundred as a checksum.
-// Answers where the generator is then.
+// A protocol's generated cases: three in full, the tapes that end too soon, the lists that are too short, and two hundred as a
+// checksum. Answers where the generator is then.
 fn generated(protocol: Protocol, from: u32) -> u32 {
     let second = case::printed(b"case 1 ", protocol, from);
     let third = case::printed(b"case 2 ", protocol, second);
     let fourth = case::printed(b"case 3 ", protocol, third);
     let more = short::printed(protocol, fourth);
+    delivery::printed(protocol, fourth);
     checksum::printed(protocol, more)
 }
 

@@ -1,43 +1,45 @@
 // What is printed of a case, an outcome and a list.
+use crate::case::Lent;
+use crate::lists;
+use crate::lists::Delivered;
+use crate::lists::List;
 use crate::protocol::Operands;
 use crate::protocol::Protocol;
 use libc::STDOUT_FILENO;
-use protocols::message::Message;
 use protocols::outcome::Outcome;
 use protocols::place::Place;
 use protocols::shares::Shares;
 
-pub fn text(bytes: &[u8]) {
+pub(crate) fn text(bytes: &[u8]) {
     io::write_all(STDOUT_FILENO, bytes);
 }
 
 // Each number stands after a space.
-pub fn word(n: u32) {
+pub(crate) fn word(n: u32) {
     text(b" ");
     io::print_decimal(STDOUT_FILENO, n as u64);
 }
 
-pub fn count(n: usize) {
+pub(crate) fn count(n: usize) {
     text(b" ");
     io::print_decimal(STDOUT_FILENO, n as u64);
 }
 
-pub fn flag(done: bool) {
-    text(b" done");
-    if done {
-        text(b" 1");
-    } else {
-        text(b" 0");
-    }
+// What is lent of four tapes or lists.
+pub(crate) fn lent(lent: Lent) {
+    count(lent.0);
+    count(lent.1);
+    count(lent.2);
+    count(lent.3);
 }
 
-pub fn number(outcome: Outcome) {
+pub(crate) fn number(outcome: Outcome) {
     text(b" number");
     word(outcome.number);
 }
 
 // The first n words of a list.
-pub fn words(list: &[u32], n: usize) {
+pub(crate) fn words(list: &[u32], n: usize) {
     let mut i = 0;
     while i < n && i < list.len() {
         word(list[i]);
@@ -45,13 +47,13 @@ pub fn words(list: &[u32], n: usize) {
     }
 }
 
-pub fn shares(s: Shares) {
+pub(crate) fn shares(s: Shares) {
     word(s.one);
     word(s.two);
     word(s.three);
 }
 
-pub fn name(protocol: Protocol) {
+pub(crate) fn name(protocol: Protocol) {
     match protocol {
         Protocol::Store => text(b"store"),
         Protocol::Add => text(b"add"),
@@ -99,17 +101,22 @@ fn operands(protocol: Protocol, x: Operands) {
     }
 }
 
-// The protocol, its operands, and the outcome's number and shares.
-pub fn case(protocol: Protocol, x: Operands, outcome: Outcome) {
-    name(protocol);
-    operands(protocol, x);
+// The outcome's number and shares.
+pub(crate) fn outcome(outcome: Outcome) {
     number(outcome);
     text(b" shares");
     shares(outcome.shares);
 }
 
+// The protocol, its operands, and the outcome's number and shares.
+pub(crate) fn case(protocol: Protocol, x: Operands, answer: Outcome) {
+    name(protocol);
+    operands(protocol, x);
+    outcome(answer);
+}
+
 // The ten numbers of the place record.
-pub fn place(place: Place) {
+pub(crate) fn place(place: Place) {
     let drawn = place.drawn;
     let received = place.received;
     count(place.handles);
@@ -124,22 +131,38 @@ pub fn place(place: Place) {
     count(received.controller);
 }
 
-fn received(party: &[u8], message: Message) {
-    let list = message.words;
+fn received(party: &[u8], list: List) {
+    let row = list.words;
     text(party);
     text(b" receives");
-    words(&list, message.count);
+    words(&row, lists::received(list));
     text(b"\n");
 }
 
 // The place record, and the words that each party receives.
-pub fn moved(outcome: Outcome) {
-    let sent = outcome.sent;
+pub(crate) fn moved(delivered: Delivered) {
+    let outcome = delivered.outcome;
     text(b"  place");
     place(outcome.place);
     text(b"\n");
-    received(b"  miner 1", sent.one);
-    received(b"  miner 2", sent.two);
-    received(b"  miner 3", sent.three);
-    received(b"  controller", sent.controller);
+    received(b"  miner 1", delivered.one);
+    received(b"  miner 2", delivered.two);
+    received(b"  miner 3", delivered.three);
+    received(b"  controller", delivered.controller);
+}
+
+fn whole(party: &[u8], list: List) {
+    let row = list.words;
+    text(party);
+    text(b" list");
+    words(&row, 32);
+    text(b"\n");
+}
+
+// Every word of the four lists.
+pub(crate) fn lists(delivered: Delivered) {
+    whole(b"  miner 1", delivered.one);
+    whole(b"  miner 2", delivered.two);
+    whole(b"  miner 3", delivered.three);
+    whole(b"  controller", delivered.controller);
 }

@@ -12,7 +12,7 @@ fn word(x: u32) -> u32 {
 }
 
 // Fills a list with the next words, and answers where the generator is then.
-pub fn fill(list: &mut [u32], from: u32) -> u32
+pub(crate) fn fill(list: &mut [u32], from: u32) -> u32
     ensures { λ r. ⌜ length (now (list .exit)) ≡ length (now (list .entry)) ⌝ }
 {
     let mut x = from;
@@ -26,7 +26,7 @@ pub fn fill(list: &mut [u32], from: u32) -> u32
 }
 
 // Fills a list with numbers in a row.
-pub fn count_from(list: &mut [u32], first: u32)
+pub(crate) fn count_from(list: &mut [u32], first: u32)
     ensures { λ r. ⌜ length (now (list .exit)) ≡ length (now (list .entry)) ⌝ }
 {
     let mut x = first;
@@ -36,4 +36,19 @@ pub fn count_from(list: &mut [u32], first: u32)
         x = std::num::wrapping_add_u32(x, 1);
         i += 1;
     }
+}
+
+// How many words of a list are not those of numbers in a row.
+pub(crate) fn changed(list: &[u32], first: u32) -> usize {
+    let mut count: usize = 0;
+    let mut x = first;
+    let mut i = 0;
+    while i < list.len() {
+        if list[i] != x {
+            count += 1;
+        }
+        x = std::num::wrapping_add_u32(x, 1);
+        i += 1;
+    }
+    count
 }

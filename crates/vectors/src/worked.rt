@@ -1,12 +1,10 @@
-// Document 01's cases, Bit at the ends of a word and past it, and delivery of words that the cases send.
+// Document 01's cases, and Bit at the ends of a word and past it.
 use crate::case;
-use crate::delivery;
+use crate::lists;
 use crate::print;
-use crate::protocol;
 use crate::protocol::Operands;
 use crate::protocol::Protocol;
 use crate::words;
-use protocols::outcome::Outcome;
 use protocols::shares::Shares;
 
 fn shares(s: [u32; 3]) -> Shares {
@@ -52,19 +50,28 @@ fn line(
     tape1: &[u32],
     tape2: &[u32],
     tape3: &[u32],
-) -> Outcome {
+) {
     let place = case::record([0; 10]);
-    let outcome = protocol::perform(protocol, x, place, provider, tape1, tape2, tape3);
+    let delivered = lists::perform(
+        protocol,
+        x,
+        place,
+        case::whole(),
+        provider,
+        tape1,
+        tape2,
+        tape3,
+    );
+    let outcome = delivered.outcome;
     print::text(label);
     print::case(protocol, x, outcome);
     print::text(b" value");
     print::word(value(protocol, outcome.shares));
     print::text(b"\n");
-    outcome
 }
 
 // Tapes of numbers in a row, but for the first word of miner 1's.
-fn in_a_row(label: &[u8], protocol: Protocol, x: Operands, first: u32) -> Outcome {
+fn in_a_row(label: &[u8], protocol: Protocol, x: Operands, first: u32) {
     let mut tape1 = [0u32; 18];
     let mut tape2 = [0u32; 12];
     let mut tape3 = [0u32; 12];
@@ -72,11 +79,11 @@ fn in_a_row(label: &[u8], protocol: Protocol, x: Operands, first: u32) -> Outcom
     words::count_from(&mut tape2, 20);
     words::count_from(&mut tape3, 40);
     tape1[0] = first;
-    line(label, protocol, x, &[], &tape1, &tape2, &tape3)
+    line(label, protocol, x, &[], &tape1, &tape2, &tape3);
 }
 
-// M1 to M4. Answers the opening.
-fn session() -> Outcome {
+// M1 to M4.
+fn session() {
     let seven = with([0, 0, 0], 7);
     let five = with([0, 0, 0], 5);
     let factors = pair([1, 2, 4], [3, 4, 4294967294]);
@@ -92,7 +99,7 @@ fn session() -> Outcome {
         &[30, 40],
         &[50, 60],
     );
-    line(b"M4 ", Protocol::Open, product, &[], &[70], &[80], &[90])
+    line(b"M4 ", Protocol::Open, product, &[], &[70], &[80], &[90]);
 }
 
 // M5 and M6, and the ends of a word. Past it commands refuse, and the protocol reads 0.
@@ -107,8 +114,8 @@ fn bits() {
     in_a_row(b"past ", Protocol::Bit, with(ones, 32), 1);
 }
 
-// M7 to M12. Answers the last.
-fn rounds() -> Outcome {
+// M7 to M12.
+fn rounds() {
     let zero = with([5, 6, 4294967285], 0);
     let powers = pair([65536, 0, 0], [0, 65536, 0]);
     let most = pair([4294967295, 1, 4294967295], [1, 1, 4294967294]);
@@ -118,15 +125,12 @@ fn rounds() -> Outcome {
     in_a_row(b"M10 ", Protocol::Multiply, powers, 1);
     in_a_row(b"M11 ", Protocol::Below, pair([0, 1, 2], [2, 2, 1]), 1);
     in_a_row(b"M11 too ", Protocol::Below, pair([0, 1, 4], [2, 2, 1]), 1);
-    in_a_row(b"M12 ", Protocol::Below, most, 1)
+    in_a_row(b"M12 ", Protocol::Below, most, 1);
 }
 
 // All of them.
-pub fn printed() {
-    let m4 = session();
+pub(crate) fn printed() {
+    session();
     bits();
-    let m12 = rounds();
-    let opened = m4.sent;
-    let compared = m12.sent;
-    delivery::printed(opened.controller, compared.two);
+    rounds();
 }

@@ -13,6 +13,7 @@ use Rattle.protocols.specs.declared.place.Place.{Place}
 use Rattle.protocols.specs.Shares.{one, two, three}
 use Rattle.protocols.specs.Place.{count, every, Receiver, miner, controller}
 use Rattle.protocols.specs.Counts.{due}
+use Rattle.protocols.proofs.Laws.Deliveries.{both}
 use Rattle.machine.specs.declared.code.Command.{Command}
 use Rattle.machine.specs.declared.code.Code.{Code}
 use Rattle.machine.specs.declared.code.Lookup.{Lookup}
@@ -45,14 +46,6 @@ accepted-same {x} e = ap code-of e
 passed : (r : ℕ) (b : Bool) (v : Verdict) {x : Code} → test r b v ≡ Accepted x → (b ≡ true) × (v ≡ Accepted x)
 passed r true v e = (refl, e)
 passed r false v e = absurd (refused-not e)
-
-pub both : (a b : Bool) → (a && b) ≡ true → (a ≡ true) × (b ≡ true)
-both true b e = (refl, e)
-both false b e = absurd (subst tells e tt)
-  where
-    tells : Bool → Type 0
-    tells true = ⊥
-    tells false = Unit {0}
 
 all-four : (a b c d : Bool) → (a && (b && (c && d))) ≡ true → (a ≡ true) × (b ≡ true) × (c ≡ true) × (d ≡ true)
 all-four a b c d e =

@@ -37,7 +37,8 @@ use Rattle.machine.specs.Registers.{Register, register, Registers, regis
 use Rattle.machine.specs.Start.{combined, registerOf, upTo, start}
 use Rattle.machine.specs.Run.{isOpen}
 use Rattle.machine.specs.Claims.{Appended, New, Opened, Entry2}
-use Rattle.machine.proofs.Laws.Accepted.{both, Passed, all-passed, has-room}
+use Rattle.protocols.proofs.Laws.Deliveries.{both}
+use Rattle.machine.proofs.Laws.Accepted.{Passed, all-passed, has-room}
 use Rattle.machine.proofs.Laws.Steps.{IfHandle, GivenAreWords, count-lengths, steps-counted, steps-combine, open-hands}
 use Rattle.machine.proofs.Laws.Rows.{values-at-most-1, same-code, opens-at-11}
 use Rattle.machine.proofs.Laws.Refusals.{above-zero}

@@ -24,7 +24,7 @@ use Rattle.machine.specs.Lent.{table, Lent, sizes, entry, Filled}
 use Rattle.machine.specs.Verdict.{test, sameLength, within, areKinds, meets, filled, unusedZero, handlesFilled, kindsFit, judged, looked-up, verdict}
 use Rattle.machine.specs.Registers.{judge}
 use Rattle.machine.specs.Start.{registerOf, upTo, start}
-use Rattle.machine.proofs.Laws.Accepted.{both}
+use Rattle.protocols.proofs.Laws.Deliveries.{both}
 use Rattle.machine.proofs.Laws.Entries.{map-upTo, upTo-take}
 
 -- ---- the verdict reads no kind but those of filled handles

@@ -1,12 +1,12 @@
 -- The test of the filled kinds, one kind at a time.
 use Prim.Native.Nat.{ℕ, suc, _+_, _-_, _<_, _≤_}
-use mathlib.Core.Path.{_≡_, ap, _∙_}
-use mathlib.Core.Bool.{Bool, true, _&&_}
+use mathlib.Core.Path.{_≡_, refl, sym, ap, _∙_}
+use mathlib.Core.Bool.{Bool, true, false, _&&_}
 use mathlib.Core.List.{List}
 use native.Mathlib.Omega.{arith}
 use native.Mathlib.Numerals.{add-one}
-use lib.ListN.{length, getD, take, drop, drop-of-length-le}
-use lib.Seq.{drop-cons, take-nil}
+use lib.ListN.{length, getD, take, drop}
+use lib.Seq.{drop-cons, take-all}
 use Rattle.machine.specs.Verdict.{isKind, areKinds}
 
 -- the test of the kinds from an index on
@@ -22,13 +22,16 @@ rest-next kinds n i h g =
     let e : n - i ≡ suc (n - (i + 1)) = omega (arith, add-one (n - (i + 1))) in
     rw (e, drop-cons kinds i 0 g, add-one)
 
-pub rest-past : (kinds : List ℕ) (n i : ℕ) → length kinds ≤ i → rest kinds n i ≡ true
-unfolding areKinds
-rest-past kinds n i h = rw (drop-of-length-le kinds h, take-nil)
+-- all kinds up to an index, and the next one
+pub rest-and : (kinds : List ℕ) (n i : ℕ) (all : Bool) → i < n → i < length kinds → (all && rest kinds n i) ≡ ((all && isKind (getD kinds i 0)) && rest kinds n (i + 1))
+rest-and kinds n i true h g = rest-next kinds n i h g
+rest-and kinds n i false h g = refl
 
-pub rest-done : (kinds : List ℕ) (n i : ℕ) → n ≤ i → rest kinds n i ≡ true
+pub rest-none : (kinds : List ℕ) (n i : ℕ) (all : Bool) → n ≤ i → (all && rest kinds n i) ≡ all
 unfolding areKinds
-rest-done kinds n i h = let e : n - i ≡ 0 = omega arith in rw e
+rest-none kinds n i true h = let e : n - i ≡ 0 = omega arith in rw e
+rest-none kinds n i false h = refl
 
-pub rest-by : (kinds : List ℕ) (n i : ℕ) (b : Bool) → i < n → i < length kinds → isKind (getD kinds i 0) ≡ b → rest kinds n i ≡ (b && rest kinds n (i + 1))
-rest-by kinds n i b h g e = rest-next kinds n i h g ∙ ap (λ (t : Bool). t && rest kinds n (i + 1)) e
+-- more than all of them
+pub take-past : (kinds : List ℕ) (n : ℕ) → length kinds ≤ n → take n kinds ≡ take (length kinds) kinds
+take-past kinds n h = take-all n kinds h ∙ sym (take-all (length kinds) kinds (omega arith))

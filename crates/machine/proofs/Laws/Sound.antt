@@ -24,7 +24,8 @@ use Rattle.machine.specs.Command.{put, command}
 use Rattle.machine.specs.Run.{run, empty}
 use Rattle.machine.specs.Refusals.{Counter, handles, inputs, drawn, received, counted, listLength, Applies, lengths-differ, place-beyond, no-kind}
 use Rattle.machine.proofs.Laws.Tests.{NoKind}
-use Rattle.machine.proofs.Laws.Accepted.{both, all-passed, Room, has-room}
+use Rattle.protocols.proofs.Laws.Deliveries.{both}
+use Rattle.machine.proofs.Laws.Accepted.{all-passed, Room, has-room}
 use Rattle.machine.proofs.Laws.Rows.{values-at-most-1}
 use Rattle.machine.proofs.Laws.Refusals.{bounds}
 use Rattle.machine.proofs.Laws.Judge.{same-lengths}

@@ -7,14 +7,15 @@ use native.Mathlib.Nat.{add-zero, add-suc}
 use native.Mathlib.Numerals.{add-one}
 use native.Mathlib.Omega.{arith}
 use Rattle.protocols.specs.declared.place.Party.the-variants.{Provider, One, Two, Three}
-use Rattle.protocols.specs.declared.message.Sent.{Sent}
-use Rattle.protocols.specs.Outcome.{sent, append, outcome, continued}
-use Rattle.protocols.proofs.Laws.Messages.{append-sent}
-use lib.ListN.{getD}
+use Rattle.protocols.specs.Outcome.{finished, delivered, delivery, fronts}
+use Rattle.protocols.proofs.Laws.Deliveries.{puts, fronts-puts, room-true}
+use lib.ListN.{length, length-append, getD}
+use Rattle.protocols.specs.declared.place.Received.{Received}
+use Rattle.protocols.specs.Counts.{due}
 use Rattle.protocols.specs.declared.place.Place.{Place}
 use Rattle.protocols.specs.declared.shares.Shares.{Shares}
-use Rattle.protocols.specs.Shares.{one, shares}
-use Rattle.protocols.specs.Place.{Tapes, Lists, lists, word, words, counts, plus, cut, rest, advance, tapeNumber, enough, block, _followed-by_, silence}
+use Rattle.protocols.specs.Shares.{one, two, three}
+use Rattle.protocols.specs.Place.{Tapes, Lists, lists, Receiver, miner, controller, list, word, words, counts, plus, cut, rest, advance, tapeNumber, enough, block, _followed-by_, silence}
 use Rattle.protocols.specs.Draws.{eachCase, drawEach, pairsCase, drawPairs, tripleCase, drawTriple, doubleCase, drawDouble}
 use Rattle.protocols.specs.Protocol.{Protocol, _then_, repeated, locally, on, Answer, done, spent, perform}
 use Rattle.protocols.specs.Claims.{OnTapes}
@@ -105,6 +106,18 @@ module _ {S T : Type 0} where
           ≡ after-double (doubleCase (tapeNumber e) (getD l 0 0) (getD l 1 0) q) (λ x y q. done (R s x y) (L s x y) q) spent
       go true = refl
       go false = refl
+
+-- ---- by its count of words
+
+module _ {S T : Type 0} (f : Protocol S T) (s : S) (p : Place) (t : Tapes) where
+  pub performs : enough (f .draws) p t ≡ true
+      → let b = block (f .draws) p t in perform f s p t ≡ done (f .result s b) (f .received s b) (advance p (f .draws))
+  unfolding perform
+  performs e = rw e
+
+  pub is-spent : enough (f .draws) p t ≡ false → perform f s p t ≡ spent
+  unfolding perform
+  is-spent e = rw e
 
 -- ---- one protocol after another
 
@@ -200,19 +213,15 @@ locally-then f g s p t = then-done (locally f) g s p t (perform-locally f s p t)
     nothing-before (done x l q) = refl
     nothing-before spent = refl
 
--- the last part of a protocol, with the words sent before it
-pub continued-after : (p : Place) (l : Lists) (a : Answer Shares) → continued p (sent l) a ≡ outcome p (preceded l a)
-continued-after p l (done s k q) = rw append-sent
-continued-after p l spent = refl
-
 pub followed-by-silence : (l : Lists) → l followed-by silence ≡ l
 followed-by-silence l = λ i. lists (append-nil (l .one) i) (append-nil (l .two) i) (append-nil (l .three) i) (append-nil (l .controller) i)
 
--- f is done: the miners hold x, the messages are m, and the place is q
-pub record Performed {S T : Type 0} (f : Protocol S T) (s : S) (p : Place) (t : Tapes) (x : T) (m : Sent) (q : Place) : Type 0 where
+-- f is done: the miners hold x, its words, k of them, have made l of the lists l₀, and the place is q
+pub record Performed {S T : Type 0} (f : Protocol S T) (s : S) (p : Place) (t : Tapes) (l₀ : Lists) (x : T) (l : Lists) (k : Received) (q : Place) : Type 0 where
   pub words : Lists
   pub is : perform f s p t ≡ done x words q
-  pub are : m ≡ sent words
+  pub are : l ≡ fronts l₀ words
+  pub long : (r : Receiver) → length (list r words) ≡ due r k
 
 -- ---- rounds
 
@@ -225,26 +234,31 @@ module _ {S T : Type 0} (f : Protocol S T) (g : ℕ → Protocol T T) (s : S) (p
   pub rounds-spent : (n k : ℕ) → k ≤ n → perform (repeated f g k) s p t ≡ spent → perform (repeated f g n) s p t ≡ spent
   rounds-spent n k h e = let m : k + (n - k) ≡ n = omega arith in rw m at (spent-later k (n - k) e)
 
-  module _ (k : ℕ) {h : T} {m : Sent} {q : Place} (d : Performed (repeated f g k) s p t h m q) where
-    pub round-done : {x : T} (l : Lists) {q′ : Place} → perform (g k) h q t ≡ done x l q′ → (v : Sent) → v ≡ append m l → Performed (repeated f g (k + 1)) s p t x v q′
-    round-done l e v a = record {
-      words = d .words followed-by l;
+  module _ (k : ℕ) {l₀ l : Lists} {h : T} {n : Received} {q : Place} (d : Performed (repeated f g k) s p t l₀ h l n q) where
+    pub round-done : {x : T} (w : Lists) {q′ : Place} → perform (g k) h q t ≡ done x w q′ → (l′ : Lists) → l′ ≡ puts n l w
+        → (j : Received) → ((r : Receiver) → due r n + length (list r w) ≡ due r j) → Performed (repeated f g (k + 1)) s p t l₀ x l′ j q′
+    round-done w e l′ a j c = record {
+      words = d .words followed-by w;
       is = rw add-one (then-done (repeated f g k) (g k) s p t (d .is) ∙ rw e);
-      are = a ∙ rw (d .are, append-sent);
+      are = a ∙ rw (d .are) (fronts-puts l₀ (d .words) w n (d .long));
+      long = λ r. longer r;
     }
+      where
+        longer : (r : Receiver) → length (list r (d .words followed-by w)) ≡ due r j
+        longer (miner one) = omega (arith, length-append (d .words .one) (w .one), d .long (miner one), c (miner one))
+        longer (miner two) = omega (arith, length-append (d .words .two) (w .two), d .long (miner two), c (miner two))
+        longer (miner three) = omega (arith, length-append (d .words .three) (w .three), d .long (miner three), c (miner three))
+        longer controller = omega (arith, length-append (d .words .controller) (w .controller), d .long controller, c controller)
 
     pub round-spent : perform (g k) h q t ≡ spent → perform (repeated f g (k + 1)) s p t ≡ spent
     round-spent e = rw add-one (then-done (repeated f g k) (g k) s p t (d .is) ∙ rw e)
 
--- ---- outcomes
+-- ---- deliveries
 
--- the outcome of a protocol that is done
-pub outcome-done : {S : Type 0} (f : Protocol S Shares) (s : S) (p : Place) (t : Tapes) {x : Shares} {m : Sent} {q : Place}
-    → Performed f s p t x m q → record { number = 0; shares = x; place = q; sent = m } ≡ outcome p (perform f s p t)
-outcome-done f s p t d = rw (d .is, d .are)
-
-pub outcome-spent : {S : Type 0} (f : Protocol S Shares) (s : S) (p : Place) (t : Tapes) → perform f s p t ≡ spent → outcome p spent ≡ outcome p (perform f s p t)
-outcome-spent f s p t e = rw e
+-- the delivery of a protocol that is done, where every list has room
+pub delivery-done : {S : Type 0} (f : Protocol S Shares) (s : S) (p : Place) (t : Tapes) {l₀ l : Lists} {x : Shares} {k : Received} {q : Place}
+    → Performed f s p t l₀ x l k q → ((r : Receiver) → due r k ≤ length (list r l₀)) → delivered (finished x q) l ≡ delivery p (perform f s p t) l₀
+delivery-done f s p t {l₀ = l₀} d h = rw (d .is, d .are, room-true l₀ (d .words) (λ r. omega (arith, d .long r, h r)))
 
 -- ---- done or spent, exactly
 

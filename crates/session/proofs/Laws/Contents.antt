@@ -9,7 +9,7 @@ use lib.ListN.{length, getD, take, drop, drop-of-length-le}
 use lib.Seq.{drop-cons, getD-take, length-take-le}
 use lib.Dec.{eqb, leb}
 use borrow.Author.Tests.{eqb-true, leb-true, eq-eqb, ne-eqb, le-leb, lt-leb}
-use Rattle.machine.proofs.Laws.Accepted.{both}
+use Rattle.protocols.proofs.Laws.Deliveries.{both}
 use Rattle.session.specs.Words.{wordAt, wordsOf}
 use Rattle.session.specs.Contents.{chained, limits, within, startOf, countOf, Bodies}
 use Rattle.session.specs.Session.{tested, isWhole, isChained, isWithin}

@@ -1,35 +1,11 @@
 -- Texts that are put into a buffer, one after the other.
-use Prim.Native.Nat.{ℕ, suc, _+_, _≤_, _<_}
+use Prim.Native.Nat.{ℕ, _+_}
 use mathlib.Core.Path.{_≡_, _∙_}
-use mathlib.Core.List.{List, [], _∷_, _++_}
-use native.Mathlib.Nat.{add-zero}
-use native.Mathlib.Numerals.{add-one}
+use mathlib.Core.List.{List, _++_}
 use native.Mathlib.Omega.{arith}
-use lib.ListN.{length, getD, set, drop, length-append, drop-of-length-le}
-use lib.Seq.{sets, drop-cons}
-
--- ---- byte by byte
-
--- what is left of a text, put after its first i bytes
-pub sets-start : (l s : List ℕ) (at : ℕ) → sets l (at + 0) (drop 0 s) ≡ sets l at s
-sets-start l s at = rw add-zero
-
-pub sets-turn : (l s : List ℕ) (at i : ℕ) → i < length s
-    → sets (set l (at + i) (getD s i 0)) (at + (i + 1)) (drop (i + 1) s) ≡ sets l (at + i) (drop i s)
-sets-turn l s at i h =
-    let e : at + (i + 1) ≡ suc (at + i) = omega arith in
-    rw (e, drop-cons s i 0 h, add-one)
-
-pub sets-end : (l s : List ℕ) (at i : ℕ) → length s ≤ i → sets l (at + i) (drop i s) ≡ l
-sets-end l s at i h = rw (drop-of-length-le s {i = i} h)
-
--- ---- text by text
-
-sets-append : (l s t : List ℕ) (at : ℕ) → sets (sets l at s) (at + length s) t ≡ sets l at (s ++ t)
-sets-append l [] t at = rw add-zero
-sets-append l (a ∷ s) t at =
-    let e : at + suc (length s) ≡ suc at + length s = omega arith in
-    rw e (sets-append (set l at a) s t (suc at))
+use lib.ListN.{length, length-append}
+use lib.Seq.{sets}
+use Rattle.protocols.proofs.Laws.Puts.{sets-append}
 
 -- a text s, put at a place of l, leaves m and the place r after it
 abbrev pub Put : List ℕ → ℕ → List ℕ → List ℕ → ℕ → Type 0

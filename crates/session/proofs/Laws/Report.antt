@@ -14,7 +14,7 @@ use Rattle.machine.specs.declared.code.Command.{Command}
 use Rattle.machine.specs.Table.{command as asked}
 use Rattle.machine.specs.Run.{Ran, empty, sumsInThrees}
 use Rattle.machine.proofs.Claims.{claims}
-use Rattle.machine.proofs.Laws.Accepted.{both}
+use Rattle.protocols.proofs.Laws.Deliveries.{both}
 use Rattle.session.specs.declared.answer.SessionAnswer.{SessionAnswer}
 use Rattle.session.specs.Words.{wordsOf}
 use Rattle.session.specs.Contents.{startOf, countOf, body, chained, limits, within, commandsOf, Sheet, sheetOf}

@@ -8,7 +8,7 @@ use lib.Dec.{leb}
 use borrow.Author.Tests.{eq-eqb, ne-eqb, leb-true}
 use Rattle.machine.specs.Lent.{sizes}
 use Rattle.machine.specs.Verdict.{sameLength}
-use Rattle.machine.proofs.Laws.Accepted.{both}
+use Rattle.protocols.proofs.Laws.Deliveries.{both}
 use Rattle.session.specs.declared.answer.SessionAnswer.{SessionAnswer}
 use Rattle.session.specs.Words.{wordsOf}
 use Rattle.session.specs.Contents.{sheetOf}

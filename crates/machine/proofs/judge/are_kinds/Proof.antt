@@ -1,49 +1,48 @@
--- `machine::judge::are_kinds` meets its contract.
-use denote.Ref.{now}
-use Prim.Native.Nat.{_-_}
-use mathlib.Core.Path.{_≡_, sym, _∙_}
-use mathlib.Core.Bool.{true, false}
+-- `machine::judge::are_kinds` meets its contract: the kinds tested so far, and the rest.
+use Prim.Native.Nat.{_-_, _≤_}
+use mathlib.Core.Path.{_≡_, sym, ap, _∙_}
+use mathlib.Core.Bool.{_&&_}
 use native.Mathlib.Omega.{arith}
-use lib.ListN.{take}
-use borrow.Author.Tests.{not-true, not-false}
-use Rattle.machine.specs.Verdict.{areKinds}
-use Rattle.machine.proofs.Laws.KindTest.{rest, rest-start, rest-past, rest-by, rest-done}
+use lib.ListN.{length, take}
 use borrow.Author.Needs.{needs}
+use Rattle.machine.specs.Verdict.{areKinds}
+use Rattle.machine.proofs.Laws.KindTest.{rest, rest-start, rest-and, rest-none}
 use Rattle.machine.proofs.judge.are_kinds.Statement.{statement}
 use Rattle.machine.proofs.judge.are_kinds.Tie as tie
 
 abbrev Inv-loop : tie.InvT-loop
-Inv-loop kinds n i₀ i = areKinds (take n kinds) ≡ rest kinds n i
+Inv-loop kinds n end all₀ i₀ all i = (end ≤ length kinds) × (i ≤ end) × (areKinds (take n kinds) ≡ (all && rest kinds end i))
 
 abbrev μ-loop : tie.MeasureT-loop
-μ-loop kinds n i₀ i = n - i
+μ-loop kinds n end all₀ i₀ all i = end - i
+
+end-of-requires : tie.Need-end-of-requires Inv-loop μ-loop
+end-of-requires c κs = tt
 
 loop-holds : tie.Need-loop-holds Inv-loop μ-loop
-loop-holds c = rest-start (now ((c .args) .kinds)) ((c .args) .n)
-
-returns : tie.Need-returns Inv-loop μ-loop
-returns c = sym ((c .before .before .loop) .inv ∙ rest-past _ _ _ ((c .if1) .taken))
+loop-holds c = ((c .end-of) .ensures .1, omega arith, ap areKinds ((c .end-of) .ensures .0) ∙ rest-start ((c .before .before .args) .kinds .now) ((c .end-of) .result))
 
 mul-kind : tie.Need-mul-kind Inv-loop μ-loop
 mul-kind c = search needs
 
 shared-slice-read-kind : tie.Need-shared-slice-read-kind Inv-loop μ-loop
-shared-slice-read-kind c = search needs
-
-returns-2 : tie.Need-returns-2 Inv-loop μ-loop
-returns-2 c = sym ((c .before .before .before .before .loop) .inv ∙ rest-by _ _ _ false ((c .before .before .before .loop-test) .taken) ((c .before .before .if1) .left) (not-true _ ((c .if2) .taken)))
+shared-slice-read-kind c = omega (arith, (c .before .before .loop) .inv .0, (c .before .loop-test) .taken)
 
 add-i : tie.Need-add-i Inv-loop μ-loop
-add-i c = omega arith
+add-i c = omega (arith, (c .before .loop-test) .taken)
 
 loop-less : tie.Need-loop-less Inv-loop μ-loop
-loop-less c = omega arith
+loop-less c = omega (arith, (c .before .loop-test) .taken)
 
 loop-again : tie.Need-loop-again Inv-loop μ-loop
-loop-again c = (c .before .before .before .before .loop) .inv ∙ rest-by _ _ _ true ((c .before .before .before .loop-test) .taken) ((c .before .before .if1) .left) (not-false _ ((c .if2) .left))
+loop-again c = (
+  (c .before .before .loop) .inv .0,
+  omega (arith, (c .before .loop-test) .taken),
+  (c .before .before .loop) .inv .2 ∙ rest-and _ _ _ ((c .before .before .loop) .all) ((c .before .loop-test) .taken) (omega (arith, (c .before .before .loop) .inv .0, (c .before .loop-test) .taken)),
+)
 
-returns-3 : tie.Need-returns-3 Inv-loop μ-loop
-returns-3 c = sym ((c .before .loop) .inv ∙ rest-done _ _ _ ((c .loop-test) .left))
+returns : tie.Need-returns Inv-loop μ-loop
+returns c = sym ((c .before .loop) .inv .2 ∙ rest-none _ _ _ ((c .before .loop) .all) ((c .loop-test) .left))
 
 pub are-kinds-spec : {M : Type 1} → statement M
 are-kinds-spec =
@@ -51,12 +50,11 @@ are-kinds-spec =
     (tie.spec
     Inv-loop
     μ-loop
+    end-of-requires
     loop-holds
-    returns
     mul-kind
     shared-slice-read-kind
-    returns-2
     add-i
     loop-less
     loop-again
-    returns-3)
+    returns)

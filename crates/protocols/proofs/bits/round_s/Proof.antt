@@ -1,5 +1,7 @@
 -- `protocols::bits::round_s` meets its contract.
-use Rattle.protocols.specs.WordForm.{wordS}
+use Prim.Native.Nat.{_<_}
+use mathlib.Core.Path.{_≡_}
+use Rattle.protocols.specs.WordForm.{sources, wordS}
 use Rattle.protocols.proofs.Laws.WordForm.{word-forms}
 use borrow.Author.Needs.{needs}
 use Rattle.protocols.proofs.bits.round_s.Statement.{statement}
@@ -16,7 +18,7 @@ and-share-requires c κs = search needs
 
 returns : tie.Need-returns
 unfolding wordS
-returns c = rw ((c .and-share) .ensures, (c .before .before .spread) .ensures, (c .before .spread2) .ensures) (word-forms 5 (c .before .before .before .args .k) (search needs) .form-s (c .before .before .before .args .p) (c .before .before .before .args .x) (c .before .before .before .args .s) (c .before .before .before .args .y) (search needs))
+returns c = let a = c .before .before .before .args in rw ((c .and-share) .ensures, (c .before .before .spread) .ensures, (c .before .spread2) .ensures) (word-forms 5 (a .k) (search needs) .form-s (a .p) (a .x) (a .s) (a .y) (search needs))
 
 pub round-s-spec : {M : Type 1} → statement M
 round-s-spec = tie.close (tie.spec spread-requires spread-requires-2 and-share-requires returns)

@@ -1,14 +1,16 @@
 -- `protocols::reshare::reshare` meets its contract.
-use Rattle.protocols.proofs.Laws.Messages.{append-sent}
+use borrow.Author.Tests.{not-true, not-false}
 use mathlib.Core.Path.{sym, _∙_}
 use Rattle.protocols.specs.Reshare.{reshare}
+use Rattle.protocols.proofs.Laws.Deliveries.{has-room}
 use Rattle.protocols.proofs.Laws.Lent.{reshare-performs}
+use lib.ListN.{length}
 use borrow.Author.Needs.{needs}
 use Rattle.protocols.proofs.reshare.reshare.Statement.{statement}
 use Rattle.protocols.proofs.reshare.reshare.Tie as tie
 
 draw-each-requires : tie.Need-draw-each-requires
-draw-each-requires c κs = tt
+draw-each-requires c κs = search needs
 
 enum-known-r : tie.Need-enum-known-r
 enum-known-r c = search needs
@@ -16,24 +18,64 @@ enum-known-r c = search needs
 enum-told : tie.Need-enum-told
 enum-told c = search needs
 
-spent-requires : tie.Need-spent-requires
-spent-requires c κs = tt
+refused-requires : tie.Need-refused-requires
+refused-requires c κs = search needs
 
 returns : tie.Need-returns
-returns c = rw (reshare-performs, sym ((c .before .before .before .draw-each) .ensures) ∙ (c .before .enum-told) .given .1) ((c .spent) .ensures)
+returns c = rw (reshare-performs, sym ((c .before .before .before .draw-each) .ensures) ∙ (c .before .enum-told) .given .1, (c .refused) .ensures)
 
-fresh-requires : tie.Need-fresh-requires
-fresh-requires c κs = tt
+have-room-requires : tie.Need-have-room-requires
+have-room-requires c κs = search needs
 
-new-requires : tie.Need-new-requires
-new-requires c κs = tt
+refused-requires-2 : tie.Need-refused-requires-2
+refused-requires-2 c κs = search needs
 
-to-next-requires : tie.Need-to-next-requires
-to-next-requires c κs = tt
+same-length : tie.Need-same-length
+same-length c = search needs
+
+same-length-2 : tie.Need-same-length-2
+same-length-2 c = search needs
+
+same-length-3 : tie.Need-same-length-3
+same-length-3 c = search needs
 
 returns-2 : tie.Need-returns-2
 unfolding reshare
-returns-2 c = rw (reshare-performs, sym ((c .before .before .before .before .before .before .draw-each) .ensures) ∙ (c .before .before .before .before .r) .given .1, (c .to-next) .ensures, (c .before .new) .ensures, (c .before .before .fresh) .ensures) (simp append-sent)
+returns-2 c = rw (reshare-performs, sym ((c .before .before .before .before .before .before .before .before .before .draw-each) .ensures) ∙ (c .before .before .before .before .before .before .before .r) .given .1, sym ((c .before .before .have-room) .ensures) ∙ not-true _ ((c .before .if1) .taken), (c .refused2) .ensures)
+
+slice-aggregate-put : tie.Need-slice-aggregate-put
+slice-aggregate-put c = search needs
+
+put-requires : tie.Need-put-requires
+put-requires c κs = has-room 1 1 1 (length ((c .before .before .before .before .before .before .before .before .before .before .before .before .before .before .before .before .before .args) .list1 .now)) (length ((c .before .before .before .before .before .before .before .before .before .before .before .before .before .before .before .before .before .args) .list2 .now)) (length ((c .before .before .before .before .before .before .before .before .before .before .before .before .before .before .before .before .before .args) .list3 .now)) (sym ((c .before .before .before .have-room) .ensures) ∙ not-false _ ((c .before .before .if1) .left)) .0
+
+slice-aggregate-put-2 : tie.Need-slice-aggregate-put-2
+slice-aggregate-put-2 c = search needs
+
+put-requires-2 : tie.Need-put-requires-2
+put-requires-2 c κs = has-room 1 1 1 (length ((c .before .before .before .before .before .before .before .before .before .before .before .before .before .before .before .before .before .before .before .before .before .before .args) .list1 .now)) (length ((c .before .before .before .before .before .before .before .before .before .before .before .before .before .before .before .before .before .before .before .before .before .before .args) .list2 .now)) (length ((c .before .before .before .before .before .before .before .before .before .before .before .before .before .before .before .before .before .before .before .before .before .before .args) .list3 .now)) (sym ((c .before .before .before .before .before .before .before .before .have-room) .ensures) ∙ not-false _ ((c .before .before .before .before .before .before .before .if1) .left)) .1
+
+slice-aggregate-put-3 : tie.Need-slice-aggregate-put-3
+slice-aggregate-put-3 c = search needs
+
+put-requires-3 : tie.Need-put-requires-3
+put-requires-3 c κs = has-room 1 1 1 (length ((c .before .before .before .before .before .before .before .before .before .before .before .before .before .before .before .before .before .before .before .before .before .before .before .before .before .before .before .args) .list1 .now)) (length ((c .before .before .before .before .before .before .before .before .before .before .before .before .before .before .before .before .before .before .before .before .before .before .before .before .before .before .before .args) .list2 .now)) (length ((c .before .before .before .before .before .before .before .before .before .before .before .before .before .before .before .before .before .before .before .before .before .before .before .before .before .before .before .args) .list3 .now)) (sym ((c .before .before .before .before .before .before .before .before .before .before .before .before .before .have-room) .ensures) ∙ not-false _ ((c .before .before .before .before .before .before .before .before .before .before .before .before .if1) .left)) .2
+
+fresh-requires : tie.Need-fresh-requires
+fresh-requires c κs = search needs
+
+same-length-4 : tie.Need-same-length-4
+same-length-4 c = search needs
+
+same-length-5 : tie.Need-same-length-5
+same-length-5 c = search needs
+
+same-length-6 : tie.Need-same-length-6
+same-length-6 c = search needs
+
+returns-3 : tie.Need-returns-3
+unfolding reshare
+returns-3 c = rw (reshare-performs, sym ((c .before .before .before .before .before .before .before .before .before .before .before .before .before .before .before .before .before .before .before .before .before .before .before .before .draw-each) .ensures) ∙ (c .before .before .before .before .before .before .before .before .before .before .before .before .before .before .before .before .before .before .before .before .before .before .r) .given .1, sym ((c .before .before .before .before .before .before .before .before .before .before .before .before .before .before .before .before .before .have-room) .ensures) ∙ not-false _ ((c .before .before .before .before .before .before .before .before .before .before .before .before .before .before .before .before .if1) .left), (c .fresh) .ensures, (c .before .before .before .put3) .ensures, (c .before .before .before .before .before .before .before .before .put2) .ensures, (c .before .before .before .before .before .before .before .before .before .before .before .before .before .put) .ensures)
 
 pub reshare-spec : {M : Type 1} → statement M
 reshare-spec =
@@ -42,9 +84,22 @@ reshare-spec =
     draw-each-requires
     enum-known-r
     enum-told
-    spent-requires
+    refused-requires
     returns
+    have-room-requires
+    refused-requires-2
+    same-length
+    same-length-2
+    same-length-3
+    returns-2
+    slice-aggregate-put
+    put-requires
+    slice-aggregate-put-2
+    put-requires-2
+    slice-aggregate-put-3
+    put-requires-3
     fresh-requires
-    new-requires
-    to-next-requires
-    returns-2)
+    same-length-4
+    same-length-5
+    same-length-6
+    returns-3)

@@ -4,7 +4,7 @@ use mathlib.Core.Path.{_≡_, refl, sym, _∙_}
 use native.Mathlib.Omega.{arith}
 use lib.ListN.{length, drop, length-set}
 use lib.Seq.{sets}
-use Rattle.session.proofs.Laws.Puts.{sets-turn, sets-start, sets-end}
+use Rattle.protocols.proofs.Laws.Puts.{sets-turn, sets-start, sets-end}
 use Rattle.session.proofs.text.put_text.Statement.{statement}
 use Rattle.session.proofs.text.put_text.Tie as tie
 

@@ -16,6 +16,9 @@ loop-holds c = search needs
 generated-requires : tie.Need-generated-requires Inv-loop μ-loop
 generated-requires c κs = search needs
 
+whole-requires : tie.Need-whole-requires Inv-loop μ-loop
+whole-requires c κs = search needs
+
 perform-requires : tie.Need-perform-requires Inv-loop μ-loop
 perform-requires c κs = search needs
 
@@ -60,6 +63,7 @@ printed-spec =
     μ-loop
     loop-holds
     generated-requires
+    whole-requires
     perform-requires
     outcome-requires
     add-k

@@ -1,0 +1,32 @@
+-- `machine::entry::write` meets its contract.
+use denote.Ref.{now}
+use mathlib.Core.Path.{sym}
+use lib.Seq.{set-out}
+use borrow.Author.Needs.{needs}
+use Rattle.machine.proofs.entry.write.Statement.{statement}
+use Rattle.machine.proofs.entry.write.Tie as tie
+
+mul-list : tie.Need-mul-list
+mul-list c = search needs
+
+slice-write-list : tie.Need-slice-write-list
+slice-write-list c = search needs
+
+same-length : tie.Need-same-length
+same-length c = search needs
+
+returns : tie.Need-returns
+returns c = search needs
+
+returns-2 : tie.Need-returns-2
+returns-2 c = sym (set-out (now ((c .before .args) .list)) ((c .before .args) .i) ((c .before .args) .word) ((c .if1) .left))
+
+pub write-spec : {M : Type 1} → statement M
+write-spec =
+    tie.close
+    (tie.spec
+    mul-list
+    slice-write-list
+    same-length
+    returns
+    returns-2)
