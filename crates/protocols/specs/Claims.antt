@@ -2,7 +2,7 @@
 -- Everywhere m is a modulus and n stands for words of 2 ^ n bits; nothing is assumed of shares and drawn words but that each is a word.
 use Prim.Native.Nat.{ℕ, suc, _+_, _-_, _*_, _/_, _^_, _≤_, _<_}
 use mathlib.Core.Path.{_≡_}
-use mathlib.Core.Bool.{true, cond}
+use mathlib.Core.Bool.{cond}
 use mathlib.Core.List.{_++_}
 use lib.Dec.{eqb}
 use lib.ListN.{length, drop}

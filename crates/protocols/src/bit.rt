@@ -1,6 +1,6 @@
 // Bit.
 ghost use mathlib.Core.Path.{_≡_};
-ghost use mathlib.Core.List.{[], _∷_};
+ghost use mathlib.Core.List.{[]};
 ghost use Rattle.protocols.specs.Word.{modulus, bitAt, low, sub, choose};
 ghost use Rattle.protocols.specs.Shares.{shares};
 ghost use Rattle.protocols.specs.Place.{tapes, lists};

@@ -1,7 +1,6 @@
 // The run of a sheet's commands.
 ghost use mathlib.Core.Path.{_≡_};
 ghost use Prim.Native.Nat.{_+_, _*_, _≤_};
-ghost use lib.ListN.{length, getD};
 ghost use Rattle.protocols.specs.Place.{tapes, lists};
 ghost use Rattle.machine.specs.Lent.{tables, lent};
 ghost use Rattle.machine.specs.Run.{runToRefusal, empty};

@@ -9,13 +9,12 @@ use Rattle.protocols.specs.declared.place.Place.{Place}
 use Rattle.protocols.specs.declared.place.Received.{Received}
 use Rattle.protocols.specs.declared.shares.Shares.{Shares}
 use Rattle.protocols.specs.Shares.{one, two, three}
-use Rattle.protocols.specs.Place.{Tapes, Lists, lists, Receiver, miner, controller, list, block}
+use Rattle.protocols.specs.Place.{Lists, lists, Receiver, miner, controller, list, block}
 use Rattle.protocols.specs.Protocol.{perform}
 use Rattle.protocols.specs.Counts.{due}
-use Rattle.protocols.specs.Outcome.{Delivered, finished, delivered, delivery, fronts}
+use Rattle.protocols.specs.Outcome.{finished, delivered, delivery, fronts}
 use Rattle.protocols.proofs.Claims.{claims}
 use Rattle.protocols.proofs.Laws.Puts.{tail-lent, tail-back, tail-sets}
-use Rattle.machine.specs.declared.answer.Answer.{Answer}
 use Rattle.machine.specs.declared.code.Code.{Code}
 use Rattle.machine.specs.declared.code.Command.{Command}
 use Rattle.machine.specs.declared.given.Given.{Given}

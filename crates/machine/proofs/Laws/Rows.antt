@@ -3,18 +3,14 @@ use Prim.Native.Nat.{ℕ, suc, _≤_, _<_}
 use mathlib.Core.Path.{_≡_, refl, sym, ap, _∙_, subst}
 use mathlib.Core.Bool.{Bool, true, false, cond}
 use native.Mathlib.Omega.{arith}
-use borrow.Author.Tests.{leb-true, eqb-true}
-use lib.Dec.{leb, eqb, lit≤}
-use Rattle.protocols.specs.Place.{Receiver}
-use Rattle.protocols.specs.Counts.{due}
+use borrow.Author.Tests.{eqb-true}
+use lib.Dec.{eqb, lit≤}
 use Rattle.machine.specs.declared.code.Code.{Code}
 use Rattle.machine.specs.declared.code.Code.the-variants.{Store, Add, Subtract, AddConstant, TimesConstant, Multiply, Reshare, Bits, Bit, Equal, Open, Below}
 use Rattle.machine.specs.declared.code.Lookup.{Lookup}
 use Rattle.machine.specs.declared.code.Lookup.the-variants.{Found, Missing}
 use Rattle.machine.specs.Table.{find, row, opens}
-use Rattle.machine.specs.Verdict.{everyList}
 use Rattle.machine.proofs.Laws.Tests.{Decides, holds, fails, stable, by-eq}
-use Rattle.machine.proofs.Laws.Accepted.{every-list}
 
 -- ---- counts
 
@@ -47,24 +43,6 @@ takes-input n Bit h = absurd (omega arith)
 takes-input n Equal h = absurd (omega arith)
 takes-input n Open h = absurd (omega arith)
 takes-input n Below h = absurd (omega arith)
-
--- no command has over 28 words for a party
-pub few-words : (x : Code) (r : Receiver) → due r (row 5 x .received) ≤ 28
-few-words x r = leb-true (due r (row 5 x .received)) 28 (every-list (λ q. leb (due q (row 5 x .received)) 28) (tested x) r)
-  where
-    tested : (y : Code) → everyList (λ q. leb (due q (row 5 y .received)) 28) ≡ true
-    tested Store = refl
-    tested Add = refl
-    tested Subtract = refl
-    tested AddConstant = refl
-    tested TimesConstant = refl
-    tested Multiply = refl
-    tested Reshare = refl
-    tested Bits = refl
-    tested Bit = refl
-    tested Equal = refl
-    tested Open = refl
-    tested Below = refl
 
 -- ---- the code words from 1 to 12 have a command
 

@@ -2,7 +2,7 @@
 use mathlib.Core.Path.{_≡_, refl, sym, ap, _∙_}
 use mathlib.Core.Bool.{Bool, true, false}
 use mathlib.Core.List.{List, [], _∷_, _++_}
-use Prim.Native.Nat.{ℕ, _+_, _-_, _*_, _≤_, _<_}
+use Prim.Native.Nat.{ℕ, _+_, _-_, _*_, _≤_}
 use native.Mathlib.Nat.{add-zero}
 use native.Mathlib.Omega.{arith}
 use Rattle.protocols.specs.declared.place.Party.{Party}
@@ -11,7 +11,7 @@ use Rattle.protocols.specs.declared.bits.Dealt.{Dealt}
 use Rattle.protocols.specs.declared.bits.Held.{Held}
 use Rattle.protocols.specs.declared.outcome.Outcome.{Outcome}
 use Rattle.protocols.specs.declared.place.Received.{Received}
-use Rattle.protocols.specs.Outcome.{Delivered, finished, delivered, delivery, fronts, room}
+use Rattle.protocols.specs.Outcome.{Delivered, finished, delivered, delivery, fronts}
 use Rattle.protocols.specs.Counts.{received, plusReceived, due}
 use Rattle.protocols.proofs.Laws.Deliveries.{puts, fronts-puts, room-true, not-spent}
 use Rattle.protocols.specs.Masked.{masked}

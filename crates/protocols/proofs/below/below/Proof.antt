@@ -1,7 +1,7 @@
 -- `protocols::below::below` meets its contract.
-use mathlib.Core.Path.{_≡_, sym, ap, _∙_}
+use mathlib.Core.Path.{sym, ap, _∙_}
 use mathlib.Core.List.{[]}
-use lib.ListN.{length, take, drop}
+use lib.ListN.{length}
 use borrow.Author.Tests.{not-true, not-false}
 use Rattle.protocols.specs.declared.place.Drawn.{Drawn}
 use native.Mathlib.Omega.{arith}

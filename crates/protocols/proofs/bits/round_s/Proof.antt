@@ -1,7 +1,5 @@
 -- `protocols::bits::round_s` meets its contract.
-use Prim.Native.Nat.{_<_}
-use mathlib.Core.Path.{_≡_}
-use Rattle.protocols.specs.WordForm.{sources, wordS}
+use Rattle.protocols.specs.WordForm.{wordS}
 use Rattle.protocols.proofs.Laws.WordForm.{word-forms}
 use borrow.Author.Needs.{needs}
 use Rattle.protocols.proofs.bits.round_s.Statement.{statement}

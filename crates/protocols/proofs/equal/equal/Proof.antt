@@ -1,5 +1,5 @@
 -- `protocols::equal::equal` meets its contract.
-use mathlib.Core.Path.{_≡_, sym, ap, _∙_}
+use mathlib.Core.Path.{sym, ap, _∙_}
 use mathlib.Core.List.{[]}
 use lib.ListN.{length}
 use borrow.Author.Tests.{not-true, not-false}

@@ -1,6 +1,6 @@
 -- `protocols::open::open` meets its contract.
 use borrow.Author.Tests.{not-true, not-false, leb-true}
-use mathlib.Core.Path.{sym, ap, _∙_}
+use mathlib.Core.Path.{sym, _∙_}
 use Rattle.protocols.specs.Open.{opening}
 use Rattle.protocols.proofs.Laws.Deliveries.{both, has-room}
 use Rattle.protocols.proofs.Laws.Lent.{opening-performs}
