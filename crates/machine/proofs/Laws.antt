@@ -15,6 +15,11 @@ pub mod ToRefusal
 pub mod OpenedWords
 pub mod ControllerWords
 pub mod Play
+pub mod Tested
+pub mod Supplied
 pub mod Accept
+pub mod Step
 pub mod Blind
 pub mod Sound
+pub mod Threes
+pub mod RunTurns

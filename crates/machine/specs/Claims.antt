@@ -22,10 +22,9 @@ use Rattle.machine.specs.declared.code.Lookup.the-variants.{Found}
 use Rattle.machine.specs.declared.row.Row.{Row}
 use Rattle.machine.specs.declared.row.Use.the-variants.{Unused, Handle, Word, Position}
 use Rattle.machine.specs.declared.lent.Sizes.{Sizes}
-use Rattle.machine.specs.declared.judge.Verdict.the-variants.{Accepted}
 use Rattle.machine.specs.Table.{find, line, row}
 use Rattle.machine.specs.Lent.{Tables, Lent, lent, table, lengths, sizes, entry, sharesAt, Filled, receivedWords, AreWords}
-use Rattle.machine.specs.Verdict.{number, verdict}
+use Rattle.machine.specs.Verdict.{Accepted, number, verdict}
 use Rattle.machine.specs.Steps.{protocol}
 use Rattle.machine.specs.Command.{Outcome, answer, outcome, given, command}
 use Rattle.machine.specs.Registers.{registers, named, judge, step, leads, leadsToRefusal}

@@ -12,13 +12,11 @@ use Rattle.protocols.specs.Place.{Lists, lists, block}
 use Rattle.machine.specs.declared.code.Command.{Command}
 use Rattle.machine.specs.declared.code.Code.{Code}
 use Rattle.machine.specs.declared.row.Row.{Row}
-use Rattle.machine.specs.declared.judge.Verdict.{Verdict}
-use Rattle.machine.specs.declared.judge.Verdict.the-variants.{Accepted, Refused}
 use Rattle.machine.specs.declared.given.Given.{Given}
 use Rattle.machine.specs.declared.answer.Answer.{Answer}
 use Rattle.machine.specs.Table.{row, opens, moved}
 use Rattle.machine.specs.Lent.{Tables, tables, Lent, lent, sizes, sharesAt}
-use Rattle.machine.specs.Verdict.{verdict}
+use Rattle.machine.specs.Verdict.{Verdict, Accepted, Refused, verdict}
 use Rattle.machine.specs.Steps.{protocol}
 
 -- 'A command answers 0 or a refusal number, the place record, and the opened word'

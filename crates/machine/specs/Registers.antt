@@ -10,10 +10,8 @@ use Rattle.machine.specs.declared.code.Command.{Command}
 use Rattle.machine.specs.declared.code.Code.{Code}
 use Rattle.machine.specs.declared.code.Code.the-variants.{Store, Add, Subtract, AddConstant, TimesConstant, Multiply, Reshare, Bits, Bit, Equal, Open, Below}
 use Rattle.machine.specs.declared.lent.Sizes.{Sizes}
-use Rattle.machine.specs.declared.judge.Verdict.{Verdict}
-use Rattle.machine.specs.declared.judge.Verdict.the-variants.{Accepted, Refused}
 use Rattle.machine.specs.Table.{row, opens, moved}
-use Rattle.machine.specs.Verdict.{number, verdict}
+use Rattle.machine.specs.Verdict.{Verdict, Accepted, Refused, number, verdict}
 
 -- 'registers (word, kind)'
 pub record Register : Type 0 where

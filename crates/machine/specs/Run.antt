@@ -1,5 +1,5 @@
 -- A list of commands, each given what the last one left, past refusals or to the first one. (01, 'Handles, tapes and places')
-use Prim.Native.Nat.{ℕ}
+use Prim.Native.Nat.{ℕ, suc}
 use mathlib.Core.Bool.{Bool, cond, _&&_}
 use mathlib.Core.List.{List, [], _∷_, _++_, map}
 use lib.Dec.{eqb}
@@ -9,10 +9,12 @@ use Rattle.protocols.specs.Place.{counts}
 use Rattle.protocols.specs.Counts.{received}
 use Rattle.machine.specs.declared.code.Command.{Command}
 use Rattle.machine.specs.declared.answer.Answer.{Answer}
+use Rattle.machine.specs.declared.answer.Run.{Run}
 use Rattle.machine.specs.declared.lent.Sizes.{Sizes}
+use Rattle.machine.specs.Table as table
 use Rattle.machine.specs.Lent.{Lent}
 use Rattle.machine.specs.Verdict.{number}
-use Rattle.machine.specs.Command.{Outcome, command}
+use Rattle.machine.specs.Command.{Outcome, answer, command}
 use Rattle.machine.specs.Registers.{Registers, judge, step}
 
 -- what is answered, in order, and what is left
@@ -38,6 +40,43 @@ runToRefusal n [] p l = ran [] p l
 runToRefusal n (c ∷ cs) p l =
     let o = command n c p l in
     cond (eqb (o .answer .number) 0) (before o (runToRefusal n cs (o .answer .place) (o .lent))) (before o (ran [] (o .answer .place) (o .lent)))
+
+-- ---- the call
+
+-- 'commands (three each)'
+unfoldable pub commandsOf : List ℕ → List Command
+commandsOf [] = []
+commandsOf (x ∷ []) = []
+commandsOf (x ∷ y ∷ []) = []
+commandsOf (code ∷ a ∷ b ∷ rest) = table.command code a b ∷ commandsOf rest
+
+-- the commands that were accepted, up to a refused one
+unfoldable pub accepted : List Answer → ℕ
+accepted [] = 0
+accepted (a ∷ l) = cond (eqb (a .number) 0) (suc (accepted l)) 0
+
+-- the number of the refused one, or 0
+unfoldable pub refusedWith : List Answer → ℕ
+refusedWith [] = 0
+refusedWith (a ∷ l) = cond (eqb (a .number) 0) (refusedWith l) (a .number)
+
+-- the last answer, a if there is none
+unfoldable pub lastOf : Answer → List Answer → Answer
+lastOf a [] = a
+lastOf a (b ∷ l) = lastOf b l
+
+pub record Ended : Type 0 where
+  pub run : Run
+  pub lent : Lent
+
+abbrev pub ended : Run → Lent → Ended
+ended r l = record { run = r; lent = l }
+
+-- commands done, the last answer, and what is lent, from the place p
+abbrev pub endOf : Place → Ran → Ended
+endOf p r = ended (record { done = accepted (r .answers); last = lastOf (answer 0 p 0) (r .answers) }) (r .lent)
+
+-- ---- what a run is
 
 -- the numbers answered, in order
 abbrev pub numbers : Ran → List ℕ

@@ -1,6 +1,6 @@
 -- When a command is turned down: the lowest number that applies, and only then. (01, 'When a call is turned down', numbers 4 to 13)
 -- It is told from what is public: the command, the place record, the lengths of all lent lists, and the kinds.
-use Prim.Native.Nat.{ℕ, _-_}
+use Prim.Native.Nat.{ℕ, zero, suc, _-_}
 use mathlib.Core.Bool.{Bool, true, cond, _&&_, _||_}
 use mathlib.Core.List.{List, [], _∷_}
 use lib.ListN.{take}
@@ -11,16 +11,20 @@ use Rattle.protocols.specs.Shares.{one, two, three}
 use Rattle.protocols.specs.Place.{count, every, Receiver, miner, controller}
 use Rattle.protocols.specs.Counts.{due}
 use Rattle.machine.specs.declared.code.Command.{Command}
+use Rattle.machine.specs.declared.code.Code.{Code}
 use Rattle.machine.specs.declared.code.Lookup.{Lookup}
 use Rattle.machine.specs.declared.code.Lookup.the-variants.{Found, Missing}
 use Rattle.machine.specs.declared.row.Use.{Use}
 use Rattle.machine.specs.declared.row.Use.the-variants.{Unused, Handle, Word, Position}
 use Rattle.machine.specs.declared.row.Row.{Row}
 use Rattle.machine.specs.declared.lent.Sizes.{Sizes}
-use Rattle.machine.specs.declared.judge.Verdict.{Verdict}
-use Rattle.machine.specs.declared.judge.Verdict.the-variants.{Accepted, Refused}
 use Rattle.machine.specs.Table.{find, row}
 use Rattle.machine.specs.Lent.{entry}
+
+-- accepted, with the command; or turned down, with the number
+pub data Verdict : Type 0 where
+  Accepted : Code → Verdict
+  Refused : ℕ → Verdict
 
 -- 0, or the number of the refusal
 abbrev pub number : Verdict → ℕ
@@ -30,6 +34,14 @@ number (Refused r) = r
 -- a test that gives the number r where it fails, and goes on where it holds
 abbrev pub test : ℕ → Bool → Verdict → Verdict
 test r holds next = cond holds next (Refused r)
+
+-- the same among numbers, 0 where all tests hold; and on from there
+abbrev pub check : ℕ → Bool → ℕ → ℕ
+check r holds next = cond holds next r
+
+abbrev pub told : ℕ → Verdict → Verdict
+told zero next = next
+told (suc r) next = Refused (suc r)
 
 -- ---- 4: 'share tables and kind list differ in length, a place beyond its list, a filled kind not 1 or 2'
 
@@ -88,13 +100,13 @@ inWord n x c = meets (x .a) true true (ltb (c .a) (width n)) && meets (x .b) tru
 
 -- ---- 10 to 13: what is left
 
--- 10: 'a new value is due and the share tables are full'
-abbrev pub tablesHave : Row → Place → Sizes → Bool
-tablesHave x p z = leb (x .values) (z .one - p .handles)
+-- 10: 'a new value is due and the share tables are full', by their length
+abbrev pub tablesHave : Row → Place → ℕ → Bool
+tablesHave x p entries = leb (x .values) (entries - p .handles)
 
--- 11: 'store with all inputs used'
-abbrev pub inputsHave : Row → Place → Sizes → Bool
-inputsHave x p z = leb (x .inputs) (z .inputs - p .inputs)
+-- 11: 'store with all inputs used', by their number
+abbrev pub inputsHave : Row → Place → ℕ → Bool
+inputsHave x p inputs = leb (x .inputs) (inputs - p .inputs)
 
 -- 12: 'any tape has fewer words left than the command draws'
 abbrev pub tapesHave : Row → Place → Sizes → Bool
@@ -106,14 +118,25 @@ listsHave x p z = everyList (λ r. leb (due r (x .received)) (due r (z .received
 
 -- ---- all of it
 
+-- 6 to 11, by the row
+abbrev pub refusal : ℕ → Row → Command → Place → ℕ → ℕ → List ℕ → ℕ
+refusal n x c p entries inputs kinds =
+    check 6 (unusedZero x c)
+    (check 7 (handlesFilled x p c)
+    (check 8 (kindsFit x kinds c) (check 9 (inWord n x c) (check 10 (tablesHave x p entries) (check 11 (inputsHave x p inputs) 0)))))
+
+-- 10 after the number of the fields, as the code tells it
+abbrev pub valueDue : ℕ → Place → ℕ → ℕ
+valueDue zero p entries = check 10 (ltb (p .handles) entries) 0
+valueDue (suc r) p entries = suc r
+
+-- 12 and 13
+abbrev pub supplied : Row → Place → Sizes → Verdict → Verdict
+supplied x p z next = test 12 (tapesHave x p z) (test 13 (listsHave x p z) next)
+
 -- a known command, by its row
 unfoldable pub judged : ℕ → Row → Command → Place → Sizes → List ℕ → Verdict → Verdict
-judged n x c p z kinds next =
-    test 6 (unusedZero x c)
-    (test 7 (handlesFilled x p c)
-    (test 8 (kindsFit x kinds c)
-    (test 9 (inWord n x c)
-    (test 10 (tablesHave x p z) (test 11 (inputsHave x p z) (test 12 (tapesHave x p z) (test 13 (listsHave x p z) next)))))))
+judged n x c p z kinds next = told (refusal n x c p (z .one) (z .inputs) kinds) (supplied x p z next)
 
 -- 5: 'code not 1 to 12'
 abbrev pub looked-up : ℕ → Lookup → Command → Place → Sizes → List ℕ → Verdict

@@ -5,17 +5,11 @@ ghost use Rattle.machine.specs.Table as table;
 ghost use Rattle.machine.specs.Lent.{tables, lent};
 ghost use Rattle.machine.specs.Command.{outcome};
 ghost use Rattle.machine.specs.Command as spec;
-use super::accept;
 use super::answer::Answer;
-use super::code::Command;
-use super::judge;
-use super::judge::Verdict;
-use super::lent::Sizes;
-use protocols::place::Drawn;
+use super::run;
 use protocols::place::Place;
-use protocols::place::Received;
 
-// Judge, then compute and write; a refused command writes nothing.
+// A run of one command.
 pub fn command(
     code: u32,
     a: u32,
@@ -37,49 +31,22 @@ pub fn command(
 ) -> Answer
     ensures { λ r. ⌜ outcome r (lent (tables (now (share1 .exit)) (now (share2 .exit)) (now (share3 .exit))) (now (kinds .exit)) (now (inputs .entry)) (tapes (now (provider .entry)) (now (tape1 .entry)) (now (tape2 .entry)) (now (tape3 .entry))) (lists (now (received1 .exit)) (now (received2 .exit)) (now (received3 .exit)) (now (controller .exit)))) ≡ spec.command 5 (table.command code a b) place (lent (tables (now (share1 .entry)) (now (share2 .entry)) (now (share3 .entry))) (now (kinds .entry)) (now (inputs .entry)) (tapes (now (provider .entry)) (now (tape1 .entry)) (now (tape2 .entry)) (now (tape3 .entry))) (lists (now (received1 .entry)) (now (received2 .entry)) (now (received3 .entry)) (now (controller .entry)))) ⌝ }
 {
-    let c = Command { code, a, b };
-    let sizes = Sizes {
-        one: share1.len(),
-        two: share2.len(),
-        three: share3.len(),
-        kinds: kinds.len(),
-        inputs: inputs.len(),
-        tapes: Drawn {
-            provider: provider.len(),
-            one: tape1.len(),
-            two: tape2.len(),
-            three: tape3.len(),
-        },
-        received: Received {
-            one: received1.len(),
-            two: received2.len(),
-            three: received3.len(),
-            controller: controller.len(),
-        },
-    };
-    match judge::judge(c, place, sizes, kinds) {
-        Verdict::Refused(number) => Answer {
-            number,
-            place,
-            opened: 0,
-        },
-        Verdict::Accepted(code) => accept::accept(
-            code,
-            c,
-            place,
-            share1,
-            share2,
-            share3,
-            kinds,
-            inputs,
-            provider,
-            tape1,
-            tape2,
-            tape3,
-            received1,
-            received2,
-            received3,
-            controller,
-        ),
-    }
+    let run = run::run(
+        &[code, a, b],
+        place,
+        share1,
+        share2,
+        share3,
+        kinds,
+        inputs,
+        provider,
+        tape1,
+        tape2,
+        tape3,
+        received1,
+        received2,
+        received3,
+        controller,
+    );
+    run.last
 }

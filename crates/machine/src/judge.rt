@@ -1,31 +1,24 @@
-// When a command is turned down. Nothing here writes, and nothing sees a share, an input, a tape word or a received word.
+// When a command is turned down, up to number 11; a protocol itself tells 12 and 13. Nothing here writes, and nothing sees a share, an
+// input, a tape word or a received word.
 ghost use mathlib.Core.Path.{_≡_};
+ghost use mathlib.Core.Bool.{_&&_};
+ghost use mathlib.Core.List.{[]};
 ghost use Prim.Native.Nat.{_≤_};
 ghost use lib.ListN.{length, take};
-ghost use lib.Dec.{leb};
+ghost use lib.Dec.{leb, ltb, eqb};
 ghost use Rattle.protocols.specs.Place.{count, every};
 ghost use Rattle.protocols.specs.Counts.{due};
-ghost use Rattle.machine.specs.Verdict.{sameLength, within, areKinds, everyList, sound, unusedZero, handlesFilled, kindsFit, inWord, tablesHave, inputsHave, tapesHave, listsHave, judged, verdict};
+ghost use Rattle.machine.specs.declared.code.Code.the-variants.{Store};
+ghost use Rattle.machine.specs.Table.{row};
+ghost use Rattle.machine.specs.Lent.{entry};
+ghost use Rattle.machine.specs.Verdict.{sameLength, within, areKinds, everyList, sound, check, valueDue};
 ghost use Rattle.machine.specs.Verdict as spec;
-use super::code;
 use super::code::Code;
 use super::code::Command;
-use super::code::Lookup;
-use super::lent;
 use super::lent::Sizes;
-use super::row;
-use super::row::Row;
-use super::row::Use;
-use protocols::draws;
 use protocols::place::Drawn;
 use protocols::place::Place;
 use protocols::place::Received;
-
-// Accepted, with the command; or turned down, with the number.
-pub enum Verdict {
-    Accepted(Code),
-    Refused(u32),
-}
 
 // ---- number 4
 
@@ -84,27 +77,14 @@ fn are_kinds(kinds: &[u32], n: usize) -> bool
     all
 }
 
-// ---- numbers 6 to 9
-
-// What a field must meet, by its use.
-fn meets(field: Use, unused: bool, handle: bool, position: bool) -> bool
-    ensures { λ r. ⌜ r ≡ spec.meets field unused handle position ⌝ }
+pub(crate) fn is_sound(p: Place, z: Sizes, kinds: &[u32]) -> bool
+    ensures { λ r. ⌜ r ≡ sound p z (now (kinds .entry)) ⌝ }
 {
-    match field {
-        Use::Unused => unused,
-        Use::Handle => handle,
-        Use::Word => true,
-        Use::Position => position,
-    }
+    let handles = p.handles;
+    same_length(z) & (within_lists(p, z) & are_kinds(kinds, handles))
 }
 
-fn unused_zero(x: Row, c: Command) -> bool
-    ensures { λ r. ⌜ r ≡ unusedZero x c ⌝ }
-{
-    let use_a = x.a;
-    let use_b = x.b;
-    meets(use_a, c.a == 0, true, true) & meets(use_b, c.b == 0, true, true)
-}
+// ---- numbers 6 to 9: the fields a and b
 
 fn filled(p: Place, h: u32) -> bool
     ensures { λ r. ⌜ r ≡ spec.filled p h ⌝ }
@@ -112,126 +92,117 @@ fn filled(p: Place, h: u32) -> bool
     (0 < h) & (h as usize <= p.handles)
 }
 
-fn handles_filled(x: Row, p: Place, c: Command) -> bool
-    ensures { λ r. ⌜ r ≡ handlesFilled x p c ⌝ }
+// One handle.
+fn operand(h: u32, kind: u32, p: Place, kinds: &[u32]) -> u32
+    requires { ⌜ p .handles ≤ length (now kinds) ⌝ }
+    ensures { λ r. ⌜ r ≡ check 7 (spec.filled p h) (check 8 (eqb (entry (now (kinds .entry)) h) kind) 0) ⌝ }
 {
-    let use_a = x.a;
-    let use_b = x.b;
-    meets(use_a, true, filled(p, c.a), true) & meets(use_b, true, filled(p, c.b), true)
+    if !filled(p, h) {
+        return 7;
+    }
+    if kinds[h as usize - 1] != kind {
+        return 8;
+    }
+    0
 }
 
-fn kinds_fit(x: Row, kinds: &[u32], c: Command) -> bool
-    ensures { λ r. ⌜ r ≡ kindsFit x (now (kinds .entry)) c ⌝ }
+// Two handles of ring values.
+fn pair(c: Command, p: Place, kinds: &[u32]) -> u32
+    requires { ⌜ p .handles ≤ length (now kinds) ⌝ }
+    ensures { λ r. ⌜ r ≡ check 7 (spec.filled p (c .a) && spec.filled p (c .b)) (check 8 (eqb (entry (now (kinds .entry)) (c .a)) 1 && eqb (entry (now (kinds .entry)) (c .b)) 1) 0) ⌝ }
 {
-    let use_a = x.a;
-    let use_b = x.b;
-    let operands = x.operands;
-    let kind_a = lent::entry(kinds, c.a);
-    let kind_b = lent::entry(kinds, c.b);
-    meets(use_a, true, kind_a == operands, true) & meets(use_b, true, kind_b == operands, true)
+    if !(filled(p, c.a) & filled(p, c.b)) {
+        return 7;
+    }
+    let kind_a = kinds[c.a as usize - 1];
+    let kind_b = kinds[c.b as usize - 1];
+    if !((kind_a == 1) & (kind_b == 1)) {
+        return 8;
+    }
+    0
 }
 
-fn in_word(x: Row, c: Command) -> bool
-    ensures { λ r. ⌜ r ≡ inWord 5 x c ⌝ }
+// One handle of a ring value, b being unused.
+fn single(c: Command, p: Place, kinds: &[u32]) -> u32
+    requires { ⌜ p .handles ≤ length (now kinds) ⌝ }
+    ensures { λ r. ⌜ r ≡ check 6 (eqb (c .b) 0) (check 7 (spec.filled p (c .a)) (check 8 (eqb (entry (now (kinds .entry)) (c .a)) 1) 0)) ⌝ }
 {
-    let use_a = x.a;
-    let use_b = x.b;
-    meets(use_a, true, true, c.a < 32) & meets(use_b, true, true, c.b < 32)
+    if c.b != 0 {
+        return 6;
+    }
+    operand(c.a, 1, p, kinds)
 }
 
-// ---- numbers 10 to 13
-
-fn tables_have(x: Row, p: Place, z: Sizes) -> bool
-    ensures { λ r. ⌜ r ≡ tablesHave x p z ⌝ }
+// One handle of a bit word, and a position in it.
+fn position(c: Command, p: Place, kinds: &[u32]) -> u32
+    requires { ⌜ p .handles ≤ length (now kinds) ⌝ }
+    ensures { λ r. ⌜ r ≡ check 7 (spec.filled p (c .a)) (check 8 (eqb (entry (now (kinds .entry)) (c .a)) 2) (check 9 (ltb (c .b) 32) 0)) ⌝ }
 {
-    x.values <= draws::left(z.one, p.handles)
+    let number = operand(c.a, 2, p, kinds);
+    if number != 0 {
+        return number;
+    }
+    if 32 <= c.b {
+        return 9;
+    }
+    0
 }
 
-fn inputs_have(x: Row, p: Place, z: Sizes) -> bool
-    ensures { λ r. ⌜ r ≡ inputsHave x p z ⌝ }
+// ---- numbers 10 and 11: what is left
+
+// After the number of the fields: an entry for the new value.
+fn value_due(number: u32, p: Place, entries: usize) -> u32
+    ensures { λ r. ⌜ r ≡ valueDue number p entries ⌝ }
 {
-    x.inputs <= draws::left(z.inputs, p.inputs)
+    if number != 0 {
+        return number;
+    }
+    if entries <= p.handles {
+        return 10;
+    }
+    0
 }
 
-fn tapes_have(x: Row, p: Place, z: Sizes) -> bool
-    ensures { λ r. ⌜ r ≡ tapesHave x p z ⌝ }
+// Of a store, all of it: no field, an entry and an input.
+fn input_due(c: Command, p: Place, entries: usize, inputs: usize) -> u32
+    ensures { λ r. ⌜ r ≡ spec.refusal 5 (row 5 Store) c p entries inputs [] ⌝ }
 {
-    let used = p.drawn;
-    let size = z.tapes;
-    let rest = Drawn {
-        provider: draws::left(size.provider, used.provider),
-        one: draws::left(size.one, used.one),
-        two: draws::left(size.two, used.two),
-        three: draws::left(size.three, used.three),
-    };
-    let drawn = x.drawn;
-    at_most_drawn(drawn, rest)
+    if (c.a != 0) | (c.b != 0) {
+        return 6;
+    }
+    if entries <= p.handles {
+        return 10;
+    }
+    if inputs <= p.inputs {
+        return 11;
+    }
+    0
 }
 
-fn lists_have(x: Row, p: Place, z: Sizes) -> bool
-    ensures { λ r. ⌜ r ≡ listsHave x p z ⌝ }
+// The lowest number from 6 to 11 that applies, or 0.
+pub(crate) fn refusal(
+    code: Code,
+    c: Command,
+    p: Place,
+    entries: usize,
+    inputs: usize,
+    kinds: &[u32],
+) -> u32
+    requires { ⌜ p .handles ≤ length (now kinds) ⌝ }
+    ensures { λ r. ⌜ r ≡ spec.refusal 5 (row 5 code) c p entries inputs (now (kinds .entry)) ⌝ }
 {
-    let used = p.received;
-    let size = z.received;
-    let rest = Received {
-        one: draws::left(size.one, used.one),
-        two: draws::left(size.two, used.two),
-        three: draws::left(size.three, used.three),
-        controller: draws::left(size.controller, used.controller),
-    };
-    let received = x.received;
-    at_most_received(received, rest)
-}
-
-// ---- all of it
-
-// A known command, by its row.
-fn judge_row(code: Code, x: Row, c: Command, p: Place, z: Sizes, kinds: &[u32]) -> Verdict
-    ensures { λ r. ⌜ r ≡ judged 5 x c p z (now (kinds .entry)) (Verdict.Accepted code) ⌝ }
-{
-    if !unused_zero(x, c) {
-        return Verdict::Refused(6);
+    match code {
+        Code::Store => input_due(c, p, entries, inputs),
+        Code::Add => value_due(pair(c, p, kinds), p, entries),
+        Code::Subtract => value_due(pair(c, p, kinds), p, entries),
+        Code::AddConstant => value_due(operand(c.a, 1, p, kinds), p, entries),
+        Code::TimesConstant => value_due(operand(c.a, 1, p, kinds), p, entries),
+        Code::Multiply => value_due(pair(c, p, kinds), p, entries),
+        Code::Reshare => value_due(single(c, p, kinds), p, entries),
+        Code::Bits => value_due(single(c, p, kinds), p, entries),
+        Code::Bit => value_due(position(c, p, kinds), p, entries),
+        Code::Equal => value_due(pair(c, p, kinds), p, entries),
+        Code::Open => single(c, p, kinds),
+        Code::Below => value_due(pair(c, p, kinds), p, entries),
     }
-    if !handles_filled(x, p, c) {
-        return Verdict::Refused(7);
-    }
-    if !kinds_fit(x, kinds, c) {
-        return Verdict::Refused(8);
-    }
-    if !in_word(x, c) {
-        return Verdict::Refused(9);
-    }
-    if !tables_have(x, p, z) {
-        return Verdict::Refused(10);
-    }
-    if !inputs_have(x, p, z) {
-        return Verdict::Refused(11);
-    }
-    if !tapes_have(x, p, z) {
-        return Verdict::Refused(12);
-    }
-    if !lists_have(x, p, z) {
-        return Verdict::Refused(13);
-    }
-    Verdict::Accepted(code)
-}
-
-fn lent_soundly(p: Place, z: Sizes, kinds: &[u32]) -> bool
-    ensures { λ r. ⌜ r ≡ sound p z (now (kinds .entry)) ⌝ }
-{
-    let handles = p.handles;
-    same_length(z) & (within_lists(p, z) & are_kinds(kinds, handles))
-}
-
-// The lowest number that applies, and only then.
-pub fn judge(c: Command, p: Place, z: Sizes, kinds: &[u32]) -> Verdict
-    ensures { λ r. ⌜ r ≡ verdict 5 c p z (now (kinds .entry)) ⌝ }
-{
-    if !lent_soundly(p, z, kinds) {
-        return Verdict::Refused(4);
-    }
-    let Lookup::Found(code) = code::find(c.code) else {
-        return Verdict::Refused(5);
-    };
-    judge_row(code, row::of(code), c, p, z, kinds)
 }

@@ -9,3 +9,5 @@ pub mod judge;
 pub mod lent;
 pub mod play;
 pub mod row;
+pub mod run;
+mod step;

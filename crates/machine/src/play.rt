@@ -4,6 +4,7 @@ ghost use Rattle.protocols.specs.Place.{tapes, lists};
 ghost use Rattle.protocols.specs.Protocol.{perform};
 ghost use Rattle.protocols.specs.Outcome.{delivered, delivery, finished};
 ghost use Rattle.machine.specs.Steps.{protocol};
+ghost use Rattle.machine.specs.Accept as spec;
 use super::code::Code;
 use super::given::Given;
 use protocols::below;
@@ -18,6 +19,33 @@ use protocols::place::Place;
 use protocols::reshare;
 use protocols::shares::Shares;
 use protocols::store;
+
+// What the miners make alone, each from its own shares; or the command has a joint protocol.
+pub enum Alone {
+    Made(Shares),
+    Joint,
+}
+
+pub(crate) fn make_alone(code: Code, b: u32, g: Given) -> Alone
+    ensures { λ r. ⌜ r ≡ spec.alone code b g ⌝ }
+{
+    let u = g.u;
+    let v = g.v;
+    match code {
+        Code::Store => Alone::Joint,
+        Code::Add => Alone::Made(local::sum(u, v)),
+        Code::Subtract => Alone::Made(local::difference(u, v)),
+        Code::AddConstant => Alone::Made(local::shifted(u, b)),
+        Code::TimesConstant => Alone::Made(local::multiple(u, b)),
+        Code::Multiply => Alone::Joint,
+        Code::Reshare => Alone::Joint,
+        Code::Bits => Alone::Joint,
+        Code::Bit => Alone::Joint,
+        Code::Equal => Alone::Joint,
+        Code::Open => Alone::Joint,
+        Code::Below => Alone::Joint,
+    }
+}
 
 // Nothing is drawn and nothing sent.
 fn locally(shares: Shares, place: Place) -> Outcome

@@ -15,7 +15,6 @@ pub mod WordForm
 pub mod Bounds
 pub mod RingCombine
 pub mod BitsCombine
-pub mod Tables
 pub mod Blind
 pub mod Counts
 pub mod Worked

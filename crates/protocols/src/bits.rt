@@ -2,13 +2,14 @@
 ghost use mathlib.Core.Path.{_≡_};
 ghost use mathlib.Core.Bool.{true};
 ghost use mathlib.Core.List.{[], _∷_};
-ghost use Prim.Native.Nat.{_+_, _<_, _≤_};
+ghost use Prim.Native.Nat.{_+_, _*_, _<_, _≤_};
 ghost use lib.ListN.{length};
 ghost use lib.Seq.{sets};
 ghost use Rattle.protocols.specs.Word.{modulus, width};
-ghost use Rattle.protocols.specs.Place.{tapes, lists, enough};
+ghost use Rattle.protocols.specs.Place.{tapes, lists, enough, to-next, to-two-three, _followed-by_};
 ghost use Rattle.protocols.specs.Protocol.{perform};
-ghost use Rattle.protocols.specs.Outcome.{delivered, delivery};
+ghost use Rattle.protocols.specs.Outcome.{delivered, delivery, fronts};
+ghost use Rattle.protocols.specs.Masked.{masked};
 ghost use Rattle.protocols.specs.WordForm as word;
 ghost use Rattle.protocols.specs.Bits as spec;
 use super::draws;
@@ -38,22 +39,33 @@ pub struct Held {
     pub base: Shares,
 }
 
-// Round k: the positions that others take from, and those whose bit k is clear.
-const SOURCES: [u32; 5] = [
-    0x5555_5555,
-    0x2222_2222,
-    0x0808_0808,
-    0x0080_0080,
-    0x0000_8000,
-];
+// The positions that others take from in round k.
+fn sources(k: u32) -> u32
+    requires { ⌜ k < 5 ⌝ }
+    ensures { λ r. ⌜ r ≡ word.sources 5 k ⌝ }
+{
+    match k {
+        0 => 0x5555_5555,
+        1 => 0x2222_2222,
+        2 => 0x0808_0808,
+        3 => 0x0080_0080,
+        _ => 0x0000_8000,
+    }
+}
 
-const CLEAR: [u32; 5] = [
-    0x5555_5555,
-    0x3333_3333,
-    0x0f0f_0f0f,
-    0x00ff_00ff,
-    0x0000_ffff,
-];
+// The positions whose bit k is clear.
+fn clear(k: u32) -> u32
+    requires { ⌜ k < 5 ⌝ }
+    ensures { λ r. ⌜ r ≡ word.clear 5 k ⌝ }
+{
+    match k {
+        0 => 0x5555_5555,
+        1 => 0x3333_3333,
+        2 => 0x0f0f_0f0f,
+        3 => 0x00ff_00ff,
+        _ => 0x0000_ffff,
+    }
+}
 
 // Each source's bit at every position that takes from it in round k.
 fn spread(k: u32, sources: u32, x: u32) -> u32
@@ -85,8 +97,8 @@ fn carried(k: u32, p: Shares, s: Shares, q: Shares, t: Shares, base: Shares) -> 
     requires { ⌜ k < 5 ⌝ }
     ensures { λ r. ⌜ r ≡ spec.carried (width 5) k p s q t base ⌝ }
 {
-    let sources = SOURCES[k as usize];
-    let clear = CLEAR[k as usize];
+    let sources = sources(k);
+    let clear = clear(k);
     Held {
         p: Shares {
             one: round_p(k, sources, clear, p.one, p.three),
@@ -151,15 +163,51 @@ fn joined(h: Held) -> Shares
     }
 }
 
-// The four words of round k, at their place in a miner's list.
-fn put_round(list: &mut [u32], at: usize, p: u32, s: u32, q: u32, t: u32)
-    requires { ⌜ at + 4 ≤ length (now list) ⌝ }
-    ensures { λ _. ⌜ now (list .exit) ≡ sets (now (list .entry)) at (p ∷ s ∷ q ∷ t ∷ []) ⌝ }
+// The dealing, with the masks of the first round sent on. (bar2, bar3 are document 01's R2, R3.)
+fn deal(
+    u: Shares,
+    r: u32,
+    r2: u32,
+    bar2: u32,
+    q: Shares,
+    t: Shares,
+    list1: &mut [u32],
+    list2: &mut [u32],
+    list3: &mut [u32],
+) -> Held
+    requires { ⌜ (2 ≤ length (now list1)) × (5 ≤ length (now list2)) × (5 ≤ length (now list3)) ⌝ }
+    ensures { λ h. ⌜ (let w = tapes [] (r ∷ r2 ∷ bar2 ∷ []) [] [] in let d = spec.deal 5 .result u w in (h ≡ spec.begun d q t) × (lists (now (list1 .exit)) (now (list2 .exit)) (now (list3 .exit)) [] ≡ fronts (lists (now (list1 .entry)) (now (list2 .entry)) (now (list3 .entry)) []) (spec.deal 5 .received u w followed-by to-next q followed-by to-next t followed-by to-two-three (d .v3) (d .v2)))) ⌝ }
 {
-    list::put(list, at, &[p, s, q, t]);
+    let r3 = ring::sub(ring::sub(u.one, r), r2);
+    let bar3 = r ^ bar2;
+    let dealt = start(ring::add(u.two, r2), ring::add(u.three, r3), bar2, bar3);
+    list::put(list1, 0, &[q.three, t.three]);
+    list::put(list2, 0, &[r2, bar2, q.one, t.one, dealt.v3]);
+    list::put(list3, 0, &[r3, bar3, q.two, t.two, dealt.v2]);
+    begun(dealt, q, t)
 }
 
-// The dealing and the rounds, where every tape and list has enough. (bar2, bar3 are document 01's R2, R3.)
+// Round k: the masked shares and the masks of the next round sent on, and what the miners then hold.
+fn round(
+    k: u32,
+    held: Held,
+    q: Shares,
+    t: Shares,
+    list1: &mut [u32],
+    list2: &mut [u32],
+    list3: &mut [u32],
+) -> Held
+    requires { ⌜ (k < 5) × (22 ≤ length (now list1)) × (25 ≤ length (now list2)) × (25 ≤ length (now list3)) ⌝ }
+    ensures { λ h. ⌜ (let p = masked (held .p) (held .q) in let s = masked (held .s) (held .t) in let w = to-next p followed-by to-next s followed-by to-next q followed-by to-next t in (h ≡ spec.carried (width 5) k p s q t (held .base)) × (lists (now (list1 .exit)) (now (list2 .exit)) (now (list3 .exit)) [] ≡ lists (sets (now (list1 .entry)) (2 + 4 * k) (w .one)) (sets (now (list2 .entry)) (5 + 4 * k) (w .two)) (sets (now (list3 .entry)) (5 + 4 * k) (w .three)) [])) ⌝ }
+{
+    let p = masked::masked(held.p, held.q);
+    let s = masked::masked(held.s, held.t);
+    let sent = 4 * k as usize;
+    list::pass_four(list1, list2, list3, 2 + sent, 5 + sent, p, s, q, t);
+    carried(k, p, s, q, t, held.base)
+}
+
+// The dealing and the rounds, where every tape and list has enough.
 pub(crate) fn rounds(
     u: Shares,
     place: Place,
@@ -179,26 +227,14 @@ pub(crate) fn rounds(
     let Pairs::Words(q, t, begun_at) = draws::draw_pairs(dealt_at, tape1, tape2, tape3) else {
         return Outcome::refused(12, place);
     };
-    let r3 = ring::sub(ring::sub(u.one, r), r2);
-    let bar3 = r ^ bar2;
-    let dealt = start(ring::add(u.two, r2), ring::add(u.three, r3), bar2, bar3);
-    list::put(list1, 0, &[q.three, t.three]);
-    list::put(list2, 0, &[r2, bar2, q.one, t.one, dealt.v3]);
-    list::put(list3, 0, &[r3, bar3, q.two, t.two, dealt.v2]);
-    let mut held = begun(dealt, q, t);
+    let mut held = deal(u, r, r2, bar2, q, t, list1, list2, list3);
     let mut at = begun_at;
     let mut k: u32 = 0;
     while k < 5 {
         let Pairs::Words(q, t, next) = draws::draw_pairs(at, tape1, tape2, tape3) else {
             return Outcome::refused(12, place);
         };
-        let p = masked::masked(held.p, held.q);
-        let s = masked::masked(held.s, held.t);
-        let sent = 4 * k as usize;
-        put_round(list1, 2 + sent, p.three, s.three, q.three, t.three);
-        put_round(list2, 5 + sent, p.one, s.one, q.one, t.one);
-        put_round(list3, 5 + sent, p.two, s.two, q.two, t.two);
-        held = carried(k, p, s, q, t, held.base);
+        held = round(k, held, q, t, list1, list2, list3);
         at = next;
         k += 1;
     }

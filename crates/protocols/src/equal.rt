@@ -1,14 +1,16 @@
 // Equal.
 ghost use mathlib.Core.Path.{_≡_};
 ghost use mathlib.Core.Bool.{true};
-ghost use mathlib.Core.List.{[]};
-ghost use Prim.Native.Nat.{_<_, _≤_};
+ghost use mathlib.Core.List.{[], _∷_};
+ghost use Prim.Native.Nat.{_+_, _*_, _<_, _≤_};
 ghost use lib.ListN.{length};
+ghost use lib.Seq.{sets};
 ghost use Rattle.protocols.specs.Word.{modulus, width};
 ghost use Rattle.protocols.specs.Shares.{operands};
-ghost use Rattle.protocols.specs.Place.{tapes, lists, enough};
+ghost use Rattle.protocols.specs.Place.{tapes, lists, enough, to-next, _followed-by_};
 ghost use Rattle.protocols.specs.Protocol.{perform};
-ghost use Rattle.protocols.specs.Outcome.{delivered, delivery};
+ghost use Rattle.protocols.specs.Outcome.{delivered, delivery, fronts};
+ghost use Rattle.protocols.specs.Masked.{masked};
 ghost use Rattle.protocols.specs.WordForm as word;
 ghost use Rattle.protocols.specs.Equal as spec;
 use super::bit;
@@ -30,22 +32,33 @@ pub struct Folding {
     pub q: Shares,
 }
 
-// Round k: the positions that take the 'and', and the others.
-const HEADS: [u32; 5] = [
-    0x5555_5555,
-    0x1111_1111,
-    0x0101_0101,
-    0x0001_0001,
-    0x0000_0001,
-];
+// The positions that take the 'and' in round k.
+fn heads(k: u32) -> u32
+    requires { ⌜ k < 5 ⌝ }
+    ensures { λ r. ⌜ r ≡ word.heads 5 k ⌝ }
+{
+    match k {
+        0 => 0x5555_5555,
+        1 => 0x1111_1111,
+        2 => 0x0101_0101,
+        3 => 0x0001_0001,
+        _ => 0x0000_0001,
+    }
+}
 
-const OTHERS: [u32; 5] = [
-    0xaaaa_aaaa,
-    0xeeee_eeee,
-    0xfefe_fefe,
-    0xfffe_fffe,
-    0xffff_fffe,
-];
+// The other positions of round k.
+fn others(k: u32) -> u32
+    requires { ⌜ k < 5 ⌝ }
+    ensures { λ r. ⌜ r ≡ word.others 5 k ⌝ }
+{
+    match k {
+        0 => 0xaaaa_aaaa,
+        1 => 0xeeee_eeee,
+        2 => 0xfefe_fefe,
+        3 => 0xfffe_fffe,
+        _ => 0xffff_fffe,
+    }
+}
 
 // A miner's p after round k, from its own masked share and the previous miner's.
 fn fold_share(k: u32, heads: u32, others: u32, p: u32, x: u32) -> u32
@@ -61,8 +74,8 @@ fn folded(k: u32, p: Shares, q: Shares) -> Folding
     requires { ⌜ k < 5 ⌝ }
     ensures { λ r. ⌜ r ≡ spec.folded (width 5) k p q ⌝ }
 {
-    let heads = HEADS[k as usize];
-    let others = OTHERS[k as usize];
+    let heads = heads(k);
+    let others = others(k);
     Folding {
         p: Shares {
             one: fold_share(k, heads, others, p.one, p.three),
@@ -82,6 +95,55 @@ fn compared(d: Shares, r2: u32, r3: u32) -> Shares
         two: ring::add(d.two, r2),
         three: ring::sub(0, ring::add(d.three, r3)),
     }
+}
+
+// The comparison, with the masks of the first round sent on.
+fn compare(
+    u: Shares,
+    v: Shares,
+    r2: u32,
+    q: Shares,
+    list1: &mut [u32],
+    list2: &mut [u32],
+    list3: &mut [u32],
+) -> Folding
+    requires { ⌜ (1 ≤ length (now list1)) × (2 ≤ length (now list2)) × (2 ≤ length (now list3)) ⌝ }
+    ensures { λ h. ⌜ (let w = tapes [] (r2 ∷ []) [] [] in (h .p ≡ spec.compare 5 .result (operands u v) w) × (h .q ≡ q) × (lists (now (list1 .exit)) (now (list2 .exit)) (now (list3 .exit)) [] ≡ fronts (lists (now (list1 .entry)) (now (list2 .entry)) (now (list3 .entry)) []) (spec.compare 5 .received (operands u v) w followed-by to-next q))) ⌝ }
+{
+    let d = local::difference(u, v);
+    let r3 = ring::sub(d.one, r2);
+    list1[0] = q.three;
+    list2[0] = r2;
+    list2[1] = q.one;
+    list3[0] = r3;
+    list3[1] = q.two;
+    Folding {
+        p: compared(d, r2, r3),
+        q,
+    }
+}
+
+// Round k: the masked shares and the masks of the next round sent on, and what the miners then hold.
+fn round(
+    k: u32,
+    held: Folding,
+    q: Shares,
+    list1: &mut [u32],
+    list2: &mut [u32],
+    list3: &mut [u32],
+) -> Folding
+    requires { ⌜ (k < 5) × (11 ≤ length (now list1)) × (15 ≤ length (now list2)) × (15 ≤ length (now list3)) ⌝ }
+    ensures { λ h. ⌜ (let p = masked (held .p) (held .q) in let w = to-next p followed-by to-next q in (h ≡ spec.folded (width 5) k p q) × (lists (now (list1 .exit)) (now (list2 .exit)) (now (list3 .exit)) [] ≡ lists (sets (now (list1 .entry)) (1 + 2 * k) (w .one)) (sets (now (list2 .entry)) (2 + 2 * k) (w .two)) (sets (now (list3 .entry)) (2 + 2 * k) (w .three)) [])) ⌝ }
+{
+    let p = masked::masked(held.p, held.q);
+    let sent = 2 * k as usize;
+    list1[1 + sent] = p.three;
+    list1[2 + sent] = q.three;
+    list2[2 + sent] = p.one;
+    list2[3 + sent] = q.one;
+    list3[2 + sent] = p.two;
+    list3[3 + sent] = q.two;
+    folded(k, p, q)
 }
 
 // The folds and Bit, where every tape and list has enough.
@@ -105,27 +167,14 @@ fn folds(
     let Each::Words(q, begun_at) = draws::draw_each(compared_at, tape1, tape2, tape3) else {
         return Outcome::refused(12, place);
     };
-    let d = local::difference(u, v);
-    let r3 = ring::sub(d.one, r2);
-    list::put(list1, 0, &[q.three]);
-    list::put(list2, 0, &[r2, q.one]);
-    list::put(list3, 0, &[r3, q.two]);
-    let mut held = Folding {
-        p: compared(d, r2, r3),
-        q,
-    };
+    let mut held = compare(u, v, r2, q, list1, list2, list3);
     let mut at = begun_at;
     let mut k: u32 = 0;
     while k < 5 {
         let Each::Words(q, next) = draws::draw_each(at, tape1, tape2, tape3) else {
             return Outcome::refused(12, place);
         };
-        let p = masked::masked(held.p, held.q);
-        let sent = 2 * k as usize;
-        list::put(list1, 1 + sent, &[p.three, q.three]);
-        list::put(list2, 2 + sent, &[p.one, q.one]);
-        list::put(list3, 2 + sent, &[p.two, q.two]);
-        held = folded(k, p, q);
+        held = round(k, held, q, list1, list2, list3);
         at = next;
         k += 1;
     }

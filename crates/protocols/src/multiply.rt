@@ -55,9 +55,7 @@ pub fn multiply(
     }
     let x = reshare::fresh(u, r);
     let y = reshare::fresh(v, s);
-    list::put(list1, 0, &[r.three, s.three, x.three, y.three]);
-    list::put(list2, 0, &[r.one, s.one, x.one, y.one]);
-    list::put(list3, 0, &[r.two, s.two, x.two, y.two]);
+    list::pass_four(list1, list2, list3, 0, 0, r, s, x, y);
     Outcome {
         number: 0,
         shares: product(x, y),

@@ -37,9 +37,9 @@ pub fn open(
         return Outcome::refused(13, place);
     }
     let fresh = reshare::fresh(s, r);
-    list::put(list1, 0, &[r.three]);
-    list::put(list2, 0, &[r.one]);
-    list::put(list3, 0, &[r.two]);
+    list1[0] = r.three;
+    list2[0] = r.one;
+    list3[0] = r.two;
     list::put(controller, 0, &[fresh.one, fresh.two, fresh.three]);
     Outcome {
         number: 0,

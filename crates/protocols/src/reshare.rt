@@ -44,9 +44,9 @@ pub fn reshare(
     if !list::have_room(1, 1, 1, list1, list2, list3) {
         return Outcome::refused(13, place);
     }
-    list::put(list1, 0, &[r.three]);
-    list::put(list2, 0, &[r.one]);
-    list::put(list3, 0, &[r.two]);
+    list1[0] = r.three;
+    list2[0] = r.one;
+    list3[0] = r.two;
     Outcome {
         number: 0,
         shares: fresh(s, r),

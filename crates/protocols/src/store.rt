@@ -36,9 +36,9 @@ pub fn store(
         two: s2,
         three: ring::sub(ring::sub(v, s1), s2),
     };
-    list::put(list1, 0, &[dealt.one]);
-    list::put(list2, 0, &[dealt.two]);
-    list::put(list3, 0, &[dealt.three]);
+    list1[0] = dealt.one;
+    list2[0] = dealt.two;
+    list3[0] = dealt.three;
     Outcome {
         number: 0,
         shares: dealt,

@@ -2,7 +2,6 @@
 pub mod Words
 pub mod Contents
 pub mod ContentsTests
-pub mod Threes
 pub mod Run
 pub mod Session
 pub mod Refusals

@@ -6,7 +6,7 @@ use lib.ListN.{length, getD, take, drop}
 use lib.Dec.{leb, eqb}
 use Rattle.protocols.specs.Place.{Tapes, tapes}
 use Rattle.machine.specs.declared.code.Command.{Command}
-use Rattle.machine.specs.Table.{command}
+use Rattle.machine.specs.Run.{commandsOf}
 
 -- 'six pairs (start in words, count in words) for commands, inputs, provider tape and tapes 1 to 3': pair k of the words w
 abbrev pub startOf : List ℕ → ℕ → ℕ
@@ -36,13 +36,6 @@ within [] pairs = true
 within (most ∷ limits) [] = false
 within (most ∷ limits) (start ∷ []) = false
 within (most ∷ limits) (start ∷ count ∷ rest) = leb count most && within limits rest
-
--- 'commands (three each)'
-unfoldable pub commandsOf : List ℕ → List Command
-commandsOf [] = []
-commandsOf (x ∷ []) = []
-commandsOf (x ∷ y ∷ []) = []
-commandsOf (code ∷ a ∷ b ∷ rest) = command code a b ∷ commandsOf rest
 
 -- ---- the six lists of a sheet
 

@@ -1,15 +1,14 @@
 -- A session: its answer, and all lent lists after it. (01, 'The session sheet')
-use Prim.Native.Nat.{ℕ, suc, _/_, _%_}
+use Prim.Native.Nat.{ℕ, _/_, _%_}
 use mathlib.Core.Bool.{Bool, cond, _&&_}
-use mathlib.Core.List.{List, [], _∷_, _++_}
+use mathlib.Core.List.{List, _++_}
 use lib.ListN.{length, take, drop}
 use lib.Dec.{leb, eqb}
 use Rattle.protocols.specs.declared.place.Place.{Place}
 use Rattle.protocols.specs.Place.{Lists}
-use Rattle.machine.specs.declared.answer.Answer.{Answer}
 use Rattle.machine.specs.Lent.{Tables, Lent, lent, sizes}
 use Rattle.machine.specs.Verdict.{sameLength}
-use Rattle.machine.specs.Run.{Ran, runToRefusal, empty}
+use Rattle.machine.specs.Run.{Ran, runToRefusal, accepted, refusedWith, empty}
 use Rattle.session.specs.declared.answer.SessionAnswer.{SessionAnswer}
 use Rattle.session.specs.Words.{wordsOf}
 use Rattle.session.specs.Contents.{Sheet, chained, limits, within, countOf, sheetOf}
@@ -64,16 +63,6 @@ refusal file w s = tested file (isLent (sheetOf (wordsOf file)) w s)
 -- 'runs from an empty place record and stops at the first refused command'
 abbrev pub runOf : Sheet → State → Ran
 runOf b s = runToRefusal 5 (b .commands) empty (lentWith b s)
-
--- the commands that were accepted, up to a refused one
-unfoldable pub accepted : List Answer → ℕ
-accepted [] = 0
-accepted (a ∷ l) = cond (eqb (a .number) 0) (suc (accepted l)) 0
-
--- the number of the refused one, or 0
-unfoldable pub refusedWith : List Answer → ℕ
-refusedWith [] = 0
-refusedWith (a ∷ l) = cond (eqb (a .number) 0) (refusedWith l) (a .number)
 
 -- ---- the outcome
 

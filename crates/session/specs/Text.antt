@@ -8,10 +8,10 @@ use lib.Dec.{ltb, leb, eqb}
 use Rattle.protocols.specs.Word.{modulus}
 use Rattle.machine.specs.declared.code.Command.{Command}
 use Rattle.machine.specs.declared.answer.Answer.{Answer}
-use Rattle.machine.specs.Run.{isOpen, sumsInThrees}
+use Rattle.machine.specs.Run.{commandsOf, isOpen, sumsInThrees}
 use Rattle.session.specs.declared.answer.SessionAnswer.{SessionAnswer}
 use Rattle.session.specs.Words.{wordsOf}
-use Rattle.session.specs.Contents.{Sheet, commandsOf, sheetOf}
+use Rattle.session.specs.Contents.{Sheet, sheetOf}
 use Rattle.session.specs.Session.{State, Outcome, runOf, session}
 
 -- ---- numbers and lines

@@ -1,76 +1,14 @@
 // The run of a sheet's commands.
 ghost use mathlib.Core.Path.{_≡_};
 ghost use Prim.Native.Nat.{_+_, _*_, _≤_};
-ghost use Rattle.protocols.specs.Place.{tapes, lists};
-ghost use Rattle.machine.specs.Lent.{tables, lent};
-ghost use Rattle.machine.specs.Run.{runToRefusal, empty};
-ghost use Rattle.session.specs.Contents.{commandsOf, sheetOf, Bodies};
+ghost use Rattle.protocols.specs.Place.{lists};
+ghost use Rattle.machine.specs.Lent.{tables};
+ghost use Rattle.session.specs.Contents.{sheetOf, Bodies};
 ghost use Rattle.session.specs.Contents as contents;
 ghost use Rattle.session.specs.Session.{state, finish, finished, runOf};
 use super::answer;
 use super::answer::SessionAnswer;
-use machine::command;
-
-// The commands in order, up to the first that is refused.
-fn run(
-    commands: &[u32],
-    share1: &mut [u32],
-    share2: &mut [u32],
-    share3: &mut [u32],
-    kinds: &mut [u32],
-    inputs: &[u32],
-    provider: &[u32],
-    tape1: &[u32],
-    tape2: &[u32],
-    tape3: &[u32],
-    received1: &mut [u32],
-    received2: &mut [u32],
-    received3: &mut [u32],
-    controller: &mut [u32],
-) -> SessionAnswer
-    ensures { λ r. ⌜ finish r (state (tables (now (share1 .exit)) (now (share2 .exit)) (now (share3 .exit))) (now (kinds .exit)) (lists (now (received1 .exit)) (now (received2 .exit)) (now (received3 .exit)) (now (controller .exit)))) ≡ finished (runToRefusal 5 (commandsOf (now (commands .entry))) empty (lent (tables (now (share1 .entry)) (now (share2 .entry)) (now (share3 .entry))) (now (kinds .entry)) (now (inputs .entry)) (tapes (now (provider .entry)) (now (tape1 .entry)) (now (tape2 .entry)) (now (tape3 .entry))) (lists (now (received1 .entry)) (now (received2 .entry)) (now (received3 .entry)) (now (controller .entry))))) ⌝ }
-{
-    let mut place = answer::empty_place();
-    let mut done: usize = 0;
-    let mut at: usize = 0;
-    while at + 2 < commands.len() {
-        let answer = command::command(
-            commands[at],
-            commands[at + 1],
-            commands[at + 2],
-            place,
-            share1,
-            share2,
-            share3,
-            kinds,
-            inputs,
-            provider,
-            tape1,
-            tape2,
-            tape3,
-            received1,
-            received2,
-            received3,
-            controller,
-        );
-        let number = answer.number;
-        place = answer.place;
-        if number != 0 {
-            return SessionAnswer {
-                done,
-                place,
-                number,
-            };
-        }
-        done += 1;
-        at += 3;
-    }
-    SessionAnswer {
-        done,
-        place,
-        number: 0,
-    }
-}
+use machine::run;
 
 // Body k: the part of the word list that the contents name.
 fn body(words: &[u32], k: usize) -> &[u32]
@@ -97,8 +35,9 @@ pub(crate) fn run_words(
     requires { ⌜ Bodies (now words) ⌝ }
     ensures { λ r. ⌜ finish r (state (tables (now (share1 .exit)) (now (share2 .exit)) (now (share3 .exit))) (now (kinds .exit)) (lists (now (received1 .exit)) (now (received2 .exit)) (now (received3 .exit)) (now (controller .exit)))) ≡ finished (runOf (sheetOf (now (words .entry))) (state (tables (now (share1 .entry)) (now (share2 .entry)) (now (share3 .entry))) (now (kinds .entry)) (lists (now (received1 .entry)) (now (received2 .entry)) (now (received3 .entry)) (now (controller .entry))))) ⌝ }
 {
-    run(
+    let run = run::run(
         body(words, 0),
+        answer::empty_place(),
         share1,
         share2,
         share3,
@@ -112,5 +51,12 @@ pub(crate) fn run_words(
         received2,
         received3,
         controller,
-    )
+    );
+    let last = run.last;
+    let place = last.place;
+    SessionAnswer {
+        done: run.done,
+        place,
+        number: last.number,
+    }
 }

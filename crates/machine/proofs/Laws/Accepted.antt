@@ -1,5 +1,5 @@
 -- What an accepted command has passed.
-use Prim.Native.Nat.{ℕ, _+_, _-_, _≤_}
+use Prim.Native.Nat.{ℕ, zero, suc, _+_, _-_, _≤_}
 use mathlib.Core.Path.{_≡_, refl, ap, subst}
 use mathlib.Core.Bool.{Bool, true, false, _&&_}
 use mathlib.Core.List.{List}
@@ -20,10 +20,8 @@ use Rattle.machine.specs.declared.code.Lookup.{Lookup}
 use Rattle.machine.specs.declared.code.Lookup.the-variants.{Found, Missing}
 use Rattle.machine.specs.declared.row.Row.{Row}
 use Rattle.machine.specs.declared.lent.Sizes.{Sizes}
-use Rattle.machine.specs.declared.judge.Verdict.{Verdict}
-use Rattle.machine.specs.declared.judge.Verdict.the-variants.{Accepted, Refused}
 use Rattle.machine.specs.Table.{find, row}
-use Rattle.machine.specs.Verdict.{test, sameLength, within, areKinds, sound, everyList, unusedZero, handlesFilled, kindsFit, inWord, tablesHave, inputsHave, tapesHave, listsHave, judged, looked-up, verdict}
+use Rattle.machine.specs.Verdict.{Verdict, Accepted, Refused, test, check, told, sameLength, within, areKinds, sound, everyList, unusedZero, handlesFilled, kindsFit, inWord, tablesHave, inputsHave, tapesHave, listsHave, refusal, supplied, judged, looked-up, verdict}
 
 -- ---- tests
 
@@ -46,6 +44,29 @@ accepted-same {x} e = ap code-of e
 passed : (r : ℕ) (b : Bool) (v : Verdict) {x : Code} → test r b v ≡ Accepted x → (b ≡ true) × (v ≡ Accepted x)
 passed r true v e = (refl, e)
 passed r false v e = absurd (refused-not e)
+
+-- a number that leads to an acceptance is 0
+told-passed : (r : ℕ) (next : Verdict) {x : Code} → told r next ≡ Accepted x → (r ≡ 0) × (next ≡ Accepted x)
+told-passed zero next e = (refl, e)
+told-passed (suc r) next e = absurd (refused-not e)
+
+-- six checks that give 0 all hold
+checks-passed : (a b c d e f : Bool) → check 6 a (check 7 b (check 8 c (check 9 d (check 10 e (check 11 f 0))))) ≡ 0
+    → (a ≡ true) × (b ≡ true) × (c ≡ true) × (d ≡ true) × (e ≡ true) × (f ≡ true)
+checks-passed true true true true true true z = (refl, refl, refl, refl, refl, refl)
+checks-passed true true true true true false z = absurd (omega arith)
+checks-passed true true true true false f z = absurd (omega arith)
+checks-passed true true true false e f z = absurd (omega arith)
+checks-passed true true false d e f z = absurd (omega arith)
+checks-passed true false c d e f z = absurd (omega arith)
+checks-passed false b c d e f z = absurd (omega arith)
+
+-- the tests 6 to 11, where none refuses
+pub refusal-passed : (n : ℕ) (x : Row) (c : Command) (p : Place) (entries inputs : ℕ) (kinds : List ℕ) → refusal n x c p entries inputs kinds ≡ 0
+    → (unusedZero x c ≡ true) × (handlesFilled x p c ≡ true) × (kindsFit x kinds c ≡ true) × (inWord n x c ≡ true) × (tablesHave x p entries ≡ true)
+    × (inputsHave x p inputs ≡ true)
+refusal-passed n x c p entries inputs kinds =
+    checks-passed (unusedZero x c) (handlesFilled x p c) (kindsFit x kinds c) (inWord n x c) (tablesHave x p entries) (inputsHave x p inputs)
 
 all-four : (a b c d : Bool) → (a && (b && (c && d))) ≡ true → (a ≡ true) × (b ≡ true) × (c ≡ true) × (d ≡ true)
 all-four a b c d e =
@@ -75,8 +96,8 @@ pub record Passed (n : ℕ) (x : Code) (c : Command) (p : Place) (z : Sizes) (ki
   pub seven : handlesFilled (row n x) p c ≡ true
   pub eight : kindsFit (row n x) kinds c ≡ true
   pub nine : inWord n (row n x) c ≡ true
-  pub ten : tablesHave (row n x) p z ≡ true
-  pub eleven : inputsHave (row n x) p z ≡ true
+  pub ten : tablesHave (row n x) p (z .one) ≡ true
+  pub eleven : inputsHave (row n x) p (z .inputs) ≡ true
   pub twelve : tapesHave (row n x) p z ≡ true
   pub thirteen : listsHave (row n x) p z ≡ true
 
@@ -88,30 +109,19 @@ all-passed n x c p z kinds e =
   where
     by-row : (y : Code) → find (c .code) ≡ Found y → sound p z kinds ≡ true → judged n (row n y) c p z kinds (Accepted y) ≡ Accepted x → Passed n y c p z kinds × (y ≡ x)
     by-row y k s f =
-        let v13 = test 13 (listsHave (row n y) p z) (Accepted y) in
-        let v12 = test 12 (tapesHave (row n y) p z) v13 in
-        let v11 = test 11 (inputsHave (row n y) p z) v12 in
-        let v10 = test 10 (tablesHave (row n y) p z) v11 in
-        let v9 = test 9 (inWord n (row n y) c) v10 in
-        let v8 = test 8 (kindsFit (row n y) kinds c) v9 in
-        let v7 = test 7 (handlesFilled (row n y) p c) v8 in
-        let t6 = passed 6 (unusedZero (row n y) c) v7 f in
-        let t7 = passed 7 (handlesFilled (row n y) p c) v8 (t6 .1) in
-        let t8 = passed 8 (kindsFit (row n y) kinds c) v9 (t7 .1) in
-        let t9 = passed 9 (inWord n (row n y) c) v10 (t8 .1) in
-        let t10 = passed 10 (tablesHave (row n y) p z) v11 (t9 .1) in
-        let t11 = passed 11 (inputsHave (row n y) p z) v12 (t10 .1) in
-        let t12 = passed 12 (tapesHave (row n y) p z) v13 (t11 .1) in
+        let t = told-passed (refusal n (row n y) c p (z .one) (z .inputs) kinds) (supplied (row n y) p z (Accepted y)) f in
+        let h = refusal-passed n (row n y) c p (z .one) (z .inputs) kinds (t .0) in
+        let t12 = passed 12 (tapesHave (row n y) p z) (test 13 (listsHave (row n y) p z) (Accepted y)) (t .1) in
         let t13 = passed 13 (listsHave (row n y) p z) (Accepted y) (t12 .1) in (
           record {
             known = k;
             four = s;
-            six = t6 .0;
-            seven = t7 .0;
-            eight = t8 .0;
-            nine = t9 .0;
-            ten = t10 .0;
-            eleven = t11 .0;
+            six = h .0;
+            seven = h .1;
+            eight = h .2;
+            nine = h .3;
+            ten = h .4;
+            eleven = h .5;
             twelve = t12 .0;
             thirteen = t13 .0;
           },
@@ -125,8 +135,17 @@ all-passed n x c p z kinds e =
 -- ---- the room that is left, as sums
 
 -- of y words x are used, and z more are there
-room : (x y z : ℕ) → leb x y ≡ true → leb z (y - x) ≡ true → x + z ≤ y
+pub room : (x y z : ℕ) → leb x y ≡ true → leb z (y - x) ≡ true → x + z ≤ y
 room x y z e f = omega (arith, leb-true x y e, leb-true z (y - x) f)
+
+-- the places lie within their lists
+pub places-within : (p : Place) (z : Sizes) (kinds : List ℕ) → sound p z kinds ≡ true
+    → (leb (p .handles) (z .one) ≡ true) × (leb (p .inputs) (z .inputs) ≡ true)
+    × (every (λ i. leb (count i (p .drawn)) (count i (z .tapes))) ≡ true) × (everyList (λ r. leb (due r (p .received)) (due r (z .received))) ≡ true)
+places-within p z kinds e =
+    all-four (leb (p .handles) (z .one)) (leb (p .inputs) (z .inputs)) (every (λ i. leb (count i (p .drawn)) (count i (z .tapes))))
+    (everyList (λ r. leb (due r (p .received)) (due r (z .received))))
+    (both (within p z) (areKinds (take (p .handles) kinds)) (both (sameLength z) (within p z && areKinds (take (p .handles) kinds)) e .1) .0)
 
 pub record Room (x : Row) (p : Place) (z : Sizes) : Type 0 where
   pub handles : p .handles + x .values ≤ z .one
@@ -136,10 +155,7 @@ pub record Room (x : Row) (p : Place) (z : Sizes) : Type 0 where
 
 pub has-room : {n : ℕ} {x : Code} {c : Command} {p : Place} {z : Sizes} {kinds : List ℕ} → Passed n x c p z kinds → Room (row n x) p z
 has-room {n} {x} {c} {p} {z} {kinds} a =
-    let w = both (within p z) (areKinds (take (p .handles) kinds)) (both (sameLength z) (within p z && areKinds (take (p .handles) kinds)) (a .four) .1) .0 in
-    let d = every (λ i. leb (count i (p .drawn)) (count i (z .tapes))) in
-    let k = everyList (λ r. leb (due r (p .received)) (due r (z .received))) in
-    let t = all-four (leb (p .handles) (z .one)) (leb (p .inputs) (z .inputs)) d k w in
+    let t = places-within p z kinds (a .four) in
     record {
       handles = room (p .handles) (z .one) (row n x .values) (t .0) (a .ten);
       inputs = room (p .inputs) (z .inputs) (row n x .inputs) (t .1) (a .eleven);

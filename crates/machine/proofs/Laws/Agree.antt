@@ -24,13 +24,11 @@ use Rattle.machine.specs.declared.code.Code.{Code}
 use Rattle.machine.specs.declared.code.Code.the-variants.{Store, Add, Subtract, AddConstant, TimesConstant, Multiply, Reshare, Bits, Bit, Equal, Open, Below}
 use Rattle.machine.specs.declared.row.Use.{Use}
 use Rattle.machine.specs.declared.row.Use.the-variants.{Unused, Handle, Word, Position}
-use Rattle.machine.specs.declared.judge.Verdict.{Verdict}
-use Rattle.machine.specs.declared.judge.Verdict.the-variants.{Accepted, Refused}
 use Rattle.machine.specs.declared.given.Given.{Given}
 use Rattle.machine.specs.declared.code.Command.{Command}
 use Rattle.machine.specs.Table.{find, row, opens, moved}
 use Rattle.machine.specs.Lent.{table, Lent, lent, tapeLengths, sizes, entry, sharesAt, Filled, AreWords}
-use Rattle.machine.specs.Verdict.{number, meets, filled, verdict}
+use Rattle.machine.specs.Verdict.{Verdict, Accepted, Refused, number, meets, filled, verdict}
 use Rattle.machine.specs.Steps.{protocol}
 use Rattle.machine.specs.Command.{Outcome, given, opened, put, withShares, written, accepted, decided, command}
 use Rattle.machine.specs.Registers.{Register, register, Registers, registers, named, value, grown, judge, after, step, shown}

@@ -15,11 +15,9 @@ use Rattle.protocols.specs.Place.{controller, inOrder}
 use Rattle.machine.specs.declared.code.Code.{Code}
 use Rattle.machine.specs.declared.code.Code.the-variants.{Open}
 use Rattle.machine.specs.declared.code.Command.{Command}
-use Rattle.machine.specs.declared.judge.Verdict.{Verdict}
-use Rattle.machine.specs.declared.judge.Verdict.the-variants.{Accepted, Refused}
 use Rattle.machine.specs.Table.{find, row, opens}
 use Rattle.machine.specs.Lent.{Lent, sizes, receivedWords}
-use Rattle.machine.specs.Verdict.{verdict}
+use Rattle.machine.specs.Verdict.{Verdict, Accepted, Refused, verdict}
 use Rattle.machine.specs.Command.{Outcome, accepted, decided, command}
 use Rattle.machine.specs.Run.{Ran, ran, before, runToRefusal, isOpen, sumsInThrees}
 use Rattle.machine.specs.Claims.{AddsUp}

@@ -17,11 +17,10 @@ use Rattle.machine.specs.declared.row.Use.{Use}
 use Rattle.machine.specs.declared.row.Use.the-variants.{Unused, Handle, Word, Position}
 use Rattle.machine.specs.declared.row.Row.{Row}
 use Rattle.machine.specs.declared.lent.Sizes.{Sizes}
-use Rattle.machine.specs.declared.judge.Verdict.{Verdict}
 use Rattle.machine.specs.declared.code.Command.{Command}
 use Rattle.machine.specs.Table.{find, row}
 use Rattle.machine.specs.Lent.{table, Lent, sizes, entry, Filled}
-use Rattle.machine.specs.Verdict.{test, sameLength, within, areKinds, meets, filled, unusedZero, handlesFilled, kindsFit, judged, looked-up, verdict}
+use Rattle.machine.specs.Verdict.{Verdict, Accepted, test, check, told, sameLength, within, areKinds, meets, filled, unusedZero, handlesFilled, kindsFit, inWord, tablesHave, inputsHave, supplied, judged, looked-up, verdict}
 use Rattle.machine.specs.Registers.{judge}
 use Rattle.machine.specs.Start.{registerOf, upTo, start}
 use Rattle.protocols.proofs.Laws.Deliveries.{both}
@@ -33,9 +32,9 @@ pub is-filled : (p : Place) (h : ℕ) → filled p h ≡ true → Filled p h
 is-filled p h e = let t = both (ltb 0 h) (leb h (p .handles)) e in (ltb-true 0 h (t .0), leb-true h (p .handles) (t .1))
 
 -- test 7 comes before test 8
-fits-alike : (h k k′ : Bool) (v : Verdict) → (h ≡ true → k ≡ k′) → test 7 h (test 8 k v) ≡ test 7 h (test 8 k′ v)
-fits-alike true k k′ v e = ap (λ (b : Bool). test 8 b v) (e refl)
-fits-alike false k k′ v e = refl
+fits-alike : (h k k′ : Bool) (n : ℕ) → (h ≡ true → k ≡ k′) → check 7 h (check 8 k n) ≡ check 7 h (check 8 k′ n)
+fits-alike true k k′ n e = ap (λ (b : Bool). check 8 b n) (e refl)
+fits-alike false k k′ n e = refl
 
 -- lengths and places come before the kinds
 sound-alike : (a b : Bool) (f : List ℕ → Bool) (v : List ℕ → Verdict) (k k′ : List ℕ) → (a ≡ true → b ≡ true → k ≡ k′)
@@ -61,7 +60,11 @@ module _ (n : ℕ) (c : Command) (p : Place) (z : Sizes) (kinds : List ℕ) wher
 
   looked-up-taken : (y : Lookup) → looked-up n y c p z (take (p .handles) kinds) ≡ looked-up n y c p z kinds
   unfolding judged
-  looked-up-taken (Found x) = ap (test 6 (unusedZero (row n x) c)) (fits-alike (handlesFilled (row n x) p c) _ _ _ (kinds-fit (row n x)))
+  looked-up-taken (Found x) =
+      ap (λ (r : ℕ). told (check 6 (unusedZero (row n x) c) r) (supplied (row n x) p z (Accepted x)))
+      (fits-alike (handlesFilled (row n x) p c) (kindsFit (row n x) (take (p .handles) kinds) c) (kindsFit (row n x) kinds c)
+      (check 9 (inWord n (row n x) c) (check 10 (tablesHave (row n x) p (z .one)) (check 11 (inputsHave (row n x) p (z .inputs)) 0)))
+      (kinds-fit (row n x)))
   looked-up-taken Missing = refl
 
   verdict-taken : verdict n c p z (take (p .handles) kinds) ≡ verdict n c p z kinds

@@ -1,6 +1,7 @@
 -- Entry 1: every command is answered by the table of refusals.
 use Prim.Native.Nat.{ℕ, suc, _-_, _≤_, _<_}
-use mathlib.Core.Path.{_≡_, refl, ap, _∙_, subst}
+use mathlib.Core.Path.{_≡_, refl, sym, ap, _∙_, subst}
+use mathlib.Core.Bool.{Bool, true, false}
 use mathlib.Core.Logic.{_↔_, _⊎_, inl, inr}
 use native.Mathlib.Omega.{arith}
 use lib.Pow.{pow-pos}
@@ -15,12 +16,10 @@ use Rattle.machine.specs.declared.code.Code.{Code}
 use Rattle.machine.specs.declared.code.Lookup.{Lookup}
 use Rattle.machine.specs.declared.code.Lookup.the-variants.{Found}
 use Rattle.machine.specs.declared.row.Use.the-variants.{Unused, Handle, Position}
-use Rattle.machine.specs.declared.judge.Verdict.{Verdict}
-use Rattle.machine.specs.declared.judge.Verdict.the-variants.{Accepted, Refused}
 use Rattle.machine.specs.declared.code.Command.{Command}
 use Rattle.machine.specs.Table.{find, row}
 use Rattle.machine.specs.Lent.{Lent, sizes, table, entry, Filled}
-use Rattle.machine.specs.Verdict.{number, sameLength, within, sound, unusedZero, handlesFilled, kindsFit, inWord, tablesHave, inputsHave, tapesHave, listsHave, judged, looked-up, verdict}
+use Rattle.machine.specs.Verdict.{Verdict, Accepted, Refused, number, test, check, told, sameLength, within, sound, unusedZero, handlesFilled, kindsFit, inWord, tablesHave, inputsHave, tapesHave, listsHave, supplied, judged, looked-up, verdict}
 use Rattle.machine.specs.Command.{answer, outcome, accepted, decided, command}
 use Rattle.machine.specs.Refusals.{Counter, handles, inputs, drawn, received, counted, listLength, Field, field, use-of, Applies, lengths-differ, place-beyond, no-kind, no-code, unused-field, not-filled, wrong-kind, over-position, tables-full, inputs-used, tape-spent, list-full, Lowest}
 use Rattle.machine.specs.Claims.{Entry1}
@@ -35,6 +34,17 @@ Passes (Refused r) = ⊥
 
 abbrev Judged : (ℕ → Type 0) → ℕ → Verdict → Type 0
 Judged = Exact Passes Refused
+
+-- the checks are tests
+told-tests : (a b c d e f : Bool) (next : Verdict) → told (check 6 a (check 7 b (check 8 c (check 9 d (check 10 e (check 11 f 0)))))) next
+    ≡ test 6 a (test 7 b (test 8 c (test 9 d (test 10 e (test 11 f next)))))
+told-tests true true true true true true next = refl
+told-tests true true true true true false next = refl
+told-tests true true true true false f next = refl
+told-tests true true true false e f next = refl
+told-tests true true false d e f next = refl
+told-tests true false c d e f next = refl
+told-tests false b c d e f next = refl
 
 -- ---- each test decides its line of the table
 
@@ -102,7 +112,7 @@ module _ (n : ℕ) (c : Command) (p : Place) (l : Lent) where
       let not-beyond : ¬ (length (l .tables .one) < p .handles) = λ h. inside (handles, h) in
       omega (arith, stable (length (l .tables .one)) (length (l .kinds)) (λ h. agree (one, h)))
 
-  test-4 : Decides (Applies n c p l 4) (sound p (sizes l) (l .kinds))
+  pub test-4 : Decides (Applies n c p l 4) (sound p (sizes l) (l .kinds))
   test-4 = same-as to from (and lengths (λ agree. and places (λ inside. by-kinds (p .handles) (l .kinds) (fits agree inside))))
     where
       to : Differ ⊎ (Beyond ⊎ Unkind) → Applies n c p l 4
@@ -164,7 +174,7 @@ module _ (n : ℕ) (c : Command) (p : Place) (l : Lent) where
         from : Applies n c p l 9 → Line x
         from (over-position y k f u h) = subst Line (same-code k e) (f, (u, omega (arith, pow-pos n)))
 
-    test-10 : Decides (Applies n c p l 10) (tablesHave (row n x) p (sizes l))
+    test-10 : Decides (Applies n c p l 10) (tablesHave (row n x) p (sizes l .one))
     test-10 = same-as to from (by-le (row n x .values) (length (l .tables .one) - p .handles))
       where
         Line : Code → Type 0
@@ -176,7 +186,7 @@ module _ (n : ℕ) (c : Command) (p : Place) (l : Lent) where
         from : Applies n c p l 10 → Line x
         from (tables-full y k v h) = subst Line (same-code k e) (omega arith)
 
-    test-11 : Decides (Applies n c p l 11) (inputsHave (row n x) p (sizes l))
+    test-11 : Decides (Applies n c p l 11) (inputsHave (row n x) p (sizes l .inputs))
     test-11 = same-as to from (by-le (row n x .inputs) (length (l .inputs) - p .inputs))
       where
         Line : Code → Type 0
@@ -212,8 +222,11 @@ module _ (n : ℕ) (c : Command) (p : Place) (l : Lent) where
     from-6 : Judged (Applies n c p l) 6 (judged n (row n x) c p (sizes l) (l .kinds) (Accepted x))
     unfolding judged
     from-6 =
-        step 6 test-6 (λ n6. step 7 test-7 (λ n7. step 8 (test-8 n7) (λ n8. step 9 test-9 (λ n9. step 10 test-10 (λ n10. step 11 test-11 (λ n11.
-        step 12 test-12 (λ n12. step 13 test-13 (λ n13. passes tt none))))))))
+        subst (Judged (Applies n c p l) 6)
+        (sym (told-tests (unusedZero (row n x) c) (handlesFilled (row n x) p c) (kindsFit (row n x) (l .kinds) c) (inWord n (row n x) c)
+        (tablesHave (row n x) p (sizes l .one)) (inputsHave (row n x) p (sizes l .inputs)) (supplied (row n x) p (sizes l) (Accepted x))))
+        (step 6 test-6 (λ n6. step 7 test-7 (λ n7. step 8 (test-8 n7) (λ n8. step 9 test-9 (λ n9. step 10 test-10 (λ n10. step 11 test-11 (λ n11.
+        step 12 test-12 (λ n12. step 13 test-13 (λ n13. passes tt none)))))))))
       where
         none : (q : ℕ) → 14 ≤ q → ¬ Applies n c p l q
         none q h s = omega (arith, bounds s)

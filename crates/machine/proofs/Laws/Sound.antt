@@ -2,6 +2,7 @@
 use Prim.Native.Nat.{ℕ, zero, suc, _+_, _≤_, _<_}
 use mathlib.Core.Path.{_≡_, refl, sym, ap, _∙_, subst}
 use mathlib.Core.Logic.{_⊎_, inl, inr}
+use mathlib.Core.Bool.{true}
 use mathlib.Core.List.{List, [], _∷_}
 use native.Mathlib.Nat.{eq-or-lt-of-le}
 use native.Mathlib.Omega.{arith}
@@ -15,19 +16,17 @@ use Rattle.machine.specs.declared.code.Command.{Command}
 use Rattle.machine.specs.declared.code.Code.{Code}
 use Rattle.machine.specs.declared.code.Code.the-variants.{Store, Add, Subtract, AddConstant, TimesConstant, Multiply, Reshare, Bits, Bit, Equal, Open, Below}
 use Rattle.machine.specs.declared.lent.Sizes.{Sizes}
-use Rattle.machine.specs.declared.judge.Verdict.{Verdict}
-use Rattle.machine.specs.declared.judge.Verdict.the-variants.{Accepted, Refused}
 use Rattle.machine.specs.Table.{row}
 use Rattle.machine.specs.Lent.{Lent, sizes, table, entry, Filled}
-use Rattle.machine.specs.Verdict.{verdict}
+use Rattle.machine.specs.Verdict.{Verdict, Accepted, Refused, verdict, sound}
 use Rattle.machine.specs.Command.{put, command}
 use Rattle.machine.specs.Run.{run, empty}
 use Rattle.machine.specs.Refusals.{Counter, handles, inputs, drawn, received, counted, listLength, Applies, lengths-differ, place-beyond, no-kind}
-use Rattle.machine.proofs.Laws.Tests.{NoKind}
+use Rattle.machine.proofs.Laws.Tests.{not-where, holds-where, NoKind}
 use Rattle.protocols.proofs.Laws.Deliveries.{both}
 use Rattle.machine.proofs.Laws.Accepted.{all-passed, Room, has-room}
 use Rattle.machine.proofs.Laws.Rows.{values-at-most-1}
-use Rattle.machine.proofs.Laws.Refusals.{bounds}
+use Rattle.machine.proofs.Laws.Refusals.{bounds, test-4}
 use Rattle.machine.proofs.Laws.Judge.{same-lengths}
 use Rattle.machine.proofs.Laws.Entries.{entry-set-old, entry-set-new, due-listLengths, due-moved}
 use Rattle.machine.proofs.Laws.Steps.{count-lengths}
@@ -134,6 +133,13 @@ module _ (n : ℕ) (c : Command) (p : Place) (l : Lent) where
 pub stays-sound : (n : ℕ) (c d : Command) (p : Place) (l : Lent)
     → ¬ Applies n c p l 4 → ¬ Applies n d (command n c p l .answer .place) (command n c p l .lent) 4
 stays-sound n c d p l none h = none (applied-before n c p l d h)
+
+-- the same of its test
+pub sound-after : (n : ℕ) (c : Command) (p : Place) (l : Lent) → sound p (sizes l) (l .kinds) ≡ true → let o = command n c p l in
+    sound (o .answer .place) (sizes (o .lent)) (o .lent .kinds) ≡ true
+sound-after n c p l e =
+    let o = command n c p l in
+    holds-where (test-4 n c (o .answer .place) (o .lent)) (stays-sound n c c p l (not-where (test-4 n c p l) e))
 
 -- nor does it apply after any run
 pub run-stays-sound : (n : ℕ) (cs : List Command) (p : Place) (l : Lent) → ((d : Command) → ¬ Applies n d p l 4)

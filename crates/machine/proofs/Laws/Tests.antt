@@ -2,7 +2,7 @@
 use Prim.Native.Nat.{ℕ, zero, suc, _≤_, _<_, suc-le-suc}
 use mathlib.Core.Path.{_≡_, refl, ap}
 use mathlib.Core.Logic.{_⊎_, inl, inr}
-use mathlib.Core.Bool.{Bool, true, false, _&&_, _||_}
+use mathlib.Core.Bool.{Bool, true, false, _&&_, _||_, false≢true}
 use mathlib.Core.List.{List, [], _∷_}
 use native.Mathlib.Omega.{arith}
 use native.Mathlib.Nat.{le-of-suc-le-suc, not-suc-le-zero}
@@ -25,6 +25,14 @@ use Rattle.machine.specs.Refusals.{Field, a, b}
 pub data Decides (P : Type 0) : Bool → Type 0 where
   holds : ¬ P → Decides P true
   fails : P → Decides P false
+
+pub not-where : {P : Type 0} {t : Bool} → Decides P t → t ≡ true → ¬ P
+not-where (holds h) e = h
+not-where (fails p) e = absurd (false≢true e)
+
+pub holds-where : {P : Type 0} {t : Bool} → Decides P t → ¬ P → t ≡ true
+holds-where (holds h) n = refl
+holds-where (fails p) n = absurd (n p)
 
 -- ---- connectives
 

@@ -4,12 +4,6 @@ use Rattle.pool.specs.Input.{Counted}
 use borrow.Author.Needs.{needs}
 use Rattle.pool.proofs.main.Statement.{statement}
 use Rattle.pool.proofs.main.Tie as tie
-use Rattle.pool.proofs.main.Reads as reads
-use Rattle.pool.proofs.main.Lts as lts
-use Rattle.io.proofs.write_all.Reads as write-all-reads
-use Rattle.os.proofs.fail.Reads as fail-reads
-use Rattle.pool.proofs.input.read_whole.Reads as read-whole-reads
-use Rattle.session.proofs.pool.pool.Reads as pool-reads
 
 -- src/main.rt:12:45
 slice-aggregate-read-whole : tie.Need-slice-aggregate-read-whole

@@ -172,16 +172,18 @@ module _ (n : ℕ) (u : Shares) (p : Place) (t : Tapes) where
   deal-done e = deal-performs n u p t ∙ rw (triple-of-one p t, e)
 
   module _ {x y z : ℕ} {p₁ : Place} (e : drawTriple p (tapes [] (t .one) [] []) ≡ triple.Words x y z p₁) where
-    pub rounds-begun : (a b : Shares) {p₂ : Place} → drawPairs p₁ t ≡ pairs.Words a b p₂ → (d : Dealt) → d ≡ deal n .result u (three-words x y z)
-        → (l₀ l : Lists) → l ≡ fronts l₀ (deal n .received u (three-words x y z) followed-by (to-next a followed-by to-next b followed-by to-two-three (d .v3) (d .v2)))
-        → (h : Held) → h ≡ begun d a b → Performed (rounds n 0) u p t l₀ h l (sentBefore 0) p₂
+    pub rounds-begun : (a b : Shares) {p₂ : Place} → drawPairs p₁ t ≡ pairs.Words a b p₂
+        → let d = deal n .result u (three-words x y z) in let w = deal n .received u (three-words x y z) followed-by to-next a followed-by to-next b followed-by to-two-three (d .v3) (d .v2) in
+        (l₀ l : Lists) (h : Held) → (h ≡ begun d a b) × (l ≡ fronts l₀ w) → Performed (rounds n 0) u p t l₀ h l (sentBefore 0) p₂
     unfolding rounds deal
-    rounds-begun a b f d g l₀ l e′ h e″ = record {
-      words = deal n .received u (three-words x y z) followed-by (to-next a followed-by to-next b followed-by to-two-three (d .v3) (d .v2));
-      is = then-done (deal n) exchange u p t (deal-done e) ∙ rw (exchange-performs, f, e″, g);
-      are = e′;
-      long = elim [ miner one ↦ refl | miner two ↦ refl | miner three ↦ refl | controller ↦ refl ];
-    }
+    rounds-begun a b f l₀ l h e′ =
+        let d = deal n .result u (three-words x y z) in
+        record {
+          words = deal n .received u (three-words x y z) followed-by to-next a followed-by to-next b followed-by to-two-three (d .v3) (d .v2);
+          is = then-done (deal n) exchange u p t (deal-done e) ∙ rw (exchange-performs, f, e′ .0);
+          are = e′ .1;
+          long = elim [ miner one ↦ refl | miner two ↦ refl | miner three ↦ refl | controller ↦ refl ];
+        }
 
     pub rounds-unmasked : drawPairs p₁ t ≡ pairs.Spent → perform (rounds n 0) u p t ≡ spent
     unfolding rounds
@@ -193,12 +195,13 @@ module _ (n : ℕ) (u : Shares) (p : Place) (t : Tapes) where
 
   module _ (k : ℕ) {l₀ l : Lists} {h : Held} {q : Place} (d : Performed (rounds n k) u p t l₀ h l (sentBefore k) q) where
     pub rounds-more : (a b : Shares) {q′ : Place} → drawPairs q t ≡ pairs.Words a b q′
-        → (l′ : Lists) → l′ ≡ puts (sentBefore k) l (to-next (masked (h .p) (h .q)) followed-by to-next (masked (h .s) (h .t)) followed-by to-next a followed-by to-next b)
-        → Performed (rounds n (k + 1)) u p t l₀ (carried (width n) k (masked (h .p) (h .q)) (masked (h .s) (h .t)) a b (h .base)) l′ (sentBefore (k + 1)) q′
+        → let x = masked (h .p) (h .q) in let y = masked (h .s) (h .t) in let w = to-next x followed-by to-next y followed-by to-next a followed-by to-next b in
+        (l′ : Lists) (h′ : Held) → (h′ ≡ carried (width n) k x y a b (h .base)) × (l′ ≡ puts (sentBefore k) l w)
+        → Performed (rounds n (k + 1)) u p t l₀ h′ l′ (sentBefore (k + 1)) q′
     unfolding rounds
-    rounds-more a b f l′ e = round-done (deal n then exchange) (round n) u p t k d
-        (to-next (masked (h .p) (h .q)) followed-by to-next (masked (h .s) (h .t)) followed-by to-next a followed-by to-next b) (round-performs n k h q t ∙ rw f) l′ e
-        (sentBefore (k + 1)) (elim [ miner one ↦ omega arith | miner two ↦ omega arith | miner three ↦ omega arith | controller ↦ refl ])
+    rounds-more a b f l′ h′ e = rw (e .0) (round-done (deal n then exchange) (round n) u p t k d
+        (to-next (masked (h .p) (h .q)) followed-by to-next (masked (h .s) (h .t)) followed-by to-next a followed-by to-next b) (round-performs n k h q t ∙ rw f) l′ (e .1)
+        (sentBefore (k + 1)) (elim [ miner one ↦ omega arith | miner two ↦ omega arith | miner three ↦ omega arith | controller ↦ refl ]))
 
     pub rounds-stopped : drawPairs q t ≡ pairs.Spent → perform (rounds n (k + 1)) u p t ≡ spent
     unfolding rounds
@@ -230,14 +233,14 @@ module _ (n : ℕ) (x : Operands) (p : Place) (t : Tapes) where
 
   module _ {r : ℕ} {p₁ : Place} (e : draw One (t .one) p ≡ Word r p₁) where
     pub folds-begun : (a : Shares) {p₂ : Place} → drawEach p₁ t ≡ each.Words a p₂
-        → (s : Shares) → s ≡ compare n .result x (tapes [] (r ∷ []) [] [])
-        → (l₀ l : Lists) → l ≡ fronts l₀ (compare n .received x (tapes [] (r ∷ []) [] []) followed-by to-next a)
-        → Performed (folds n 0) x p t l₀ (record { p = s; q = a }) l (foldedBefore 0) p₂
+        → let w = tapes [] (r ∷ []) [] [] in
+        (l₀ l : Lists) (h : Folding) → (h .p ≡ compare n .result x w) × (h .q ≡ a) × (l ≡ fronts l₀ (compare n .received x w followed-by to-next a))
+        → Performed (folds n 0) x p t l₀ h l (foldedBefore 0) p₂
     unfolding folds compare
-    folds-begun a f s g l₀ l h = record {
+    folds-begun a f l₀ l h e′ = record {
       words = compare n .received x (tapes [] (r ∷ []) [] []) followed-by to-next a;
-      is = then-done (compare n) begin x p t (compare-done e) ∙ rw (begin-performs, f, g);
-      are = h;
+      is = then-done (compare n) begin x p t (compare-done e) ∙ rw (begin-performs, f, ← (e′ .0), ← (e′ .1));
+      are = e′ .2;
       long = elim [ miner one ↦ refl | miner two ↦ refl | miner three ↦ refl | controller ↦ refl ];
     }
 
@@ -251,11 +254,12 @@ module _ (n : ℕ) (x : Operands) (p : Place) (t : Tapes) where
 
   module _ (k : ℕ) {l₀ l : Lists} {h : Folding} {q : Place} (d : Performed (folds n k) x p t l₀ h l (foldedBefore k) q) where
     pub folds-more : (a : Shares) {q′ : Place} → drawEach q t ≡ each.Words a q′
-        → (l′ : Lists) → l′ ≡ puts (foldedBefore k) l (to-next (masked (h .p) (h .q)) followed-by to-next a)
-        → Performed (folds n (k + 1)) x p t l₀ (folded (width n) k (masked (h .p) (h .q)) a) l′ (foldedBefore (k + 1)) q′
+        → let y = masked (h .p) (h .q) in
+        (l′ : Lists) (h′ : Folding) → (h′ ≡ folded (width n) k y a) × (l′ ≡ puts (foldedBefore k) l (to-next y followed-by to-next a))
+        → Performed (folds n (k + 1)) x p t l₀ h′ l′ (foldedBefore (k + 1)) q′
     unfolding folds
-    folds-more a f l′ e = round-done (compare n then begin) (fold n) x p t k d (to-next (masked (h .p) (h .q)) followed-by to-next a) (fold-performs n k h q t ∙ rw f) l′ e
-        (foldedBefore (k + 1)) (elim [ miner one ↦ omega arith | miner two ↦ omega arith | miner three ↦ omega arith | controller ↦ refl ])
+    folds-more a f l′ h′ e = rw (e .0) (round-done (compare n then begin) (fold n) x p t k d (to-next (masked (h .p) (h .q)) followed-by to-next a) (fold-performs n k h q t ∙ rw f) l′ (e .1)
+        (foldedBefore (k + 1)) (elim [ miner one ↦ omega arith | miner two ↦ omega arith | miner three ↦ omega arith | controller ↦ refl ]))
 
     pub folds-stopped : drawEach q t ≡ each.Spent → perform (folds n (k + 1)) x p t ≡ spent
     unfolding folds

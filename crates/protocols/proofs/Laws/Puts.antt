@@ -23,6 +23,13 @@ sets-turn l s at i h =
 pub sets-end : (l s : List ℕ) (at i : ℕ) → length s ≤ i → sets l (at + i) (drop i s) ≡ l
 sets-end l s at i h = rw (drop-of-length-le s {i = i} h)
 
+pub sets-four : (l : List ℕ) (at a b c d : ℕ) → set (set (set (set l at a) (at + 1) b) (at + 2) c) (at + 3) d ≡ sets l at (a ∷ b ∷ c ∷ d ∷ [])
+sets-four l at a b c d =
+    let e₁ : at + 1 ≡ suc at = omega arith in
+    let e₂ : at + 2 ≡ suc (suc at) = omega arith in
+    let e₃ : at + 3 ≡ suc (suc (suc at)) = omega arith in
+    rw (e₁, e₂, e₃)
+
 -- ---- words after words
 
 pub sets-append : (l s t : List ℕ) (at : ℕ) → sets (sets l at s) (at + length s) t ≡ sets l at (s ++ t)

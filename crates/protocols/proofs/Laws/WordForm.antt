@@ -27,6 +27,10 @@ below-or j d = either (decLt j d)
     either (yes h) = inl h
     either (no h) = inr (j - d, omega arith)
 
+-- the shift of round k, at 32 bits
+pub stride : (k : ℕ) → k < 5 → 1 * 2 ^ k % 2 ^ 32 ≡ 2 ^ k
+stride k h = rw one-mul (mod-eq-of-lt (pow-lt {j = 32} (omega arith)))
+
 and-bit : (x d : ℕ) → bitAnd x (2 ^ d) ≡ bitAt x d * 2 ^ d
 unfolding bitAt
 and-bit x d = ap (bitAnd x) (omega (arith, two-pow-succ d, ap (λ (y : ℕ). 2 ^ y) (one-add d))) ∙ and-high x 1 d

@@ -7,7 +7,7 @@ use borrow.Author.Tests.{eq-eqb, ne-eqb}
 use lib.ListN.{length, getD, take, drop, replicate, length-replicate}
 use lib.Seq.{take-at, getD-at}
 use Rattle.machine.specs.declared.answer.Answer.{Answer}
-use Rattle.session.specs.Session.{accepted, refusedWith}
+use Rattle.machine.specs.Run.{accepted, refusedWith}
 
 -- ---- commands done, and the number
 

@@ -7,11 +7,10 @@ use native.Mathlib.Omega.{arith}
 use borrow.Author.Tests.{eq-eqb, ne-eqb}
 use lib.ListN.{length, getD, drop, length-drop}
 use Rattle.protocols.specs.Shares.{shares, sumOf}
-use Rattle.machine.specs.Run.{sumsInThrees}
+use Rattle.machine.specs.Run.{commandsOf, sumsInThrees}
 use Rattle.machine.proofs.Laws.Runs.{sums-none, sums-next}
-use Rattle.session.specs.Contents.{commandsOf}
+use Rattle.machine.proofs.Laws.Threes.{drop-three, drop-short, commands-turn, commands-end}
 use Rattle.session.specs.Text.{openLine, linesWith}
-use Rattle.session.proofs.Laws.Threes.{drop-three, drop-short, commands-turn, commands-end}
 
 -- ---- sums in threes
 

@@ -12,13 +12,13 @@ use lib.Dec.{eqb, leb}
 use Rattle.protocols.specs.Word.{modulus}
 use Rattle.machine.specs.declared.code.Command.{Command}
 use Rattle.machine.specs.Table.{command as asked}
-use Rattle.machine.specs.Run.{Ran, empty, sumsInThrees}
+use Rattle.machine.specs.Run.{Ran, commandsOf, accepted, empty, sumsInThrees}
 use Rattle.machine.proofs.Claims.{claims}
 use Rattle.protocols.proofs.Laws.Deliveries.{both}
 use Rattle.session.specs.declared.answer.SessionAnswer.{SessionAnswer}
 use Rattle.session.specs.Words.{wordsOf}
-use Rattle.session.specs.Contents.{startOf, countOf, body, chained, limits, within, commandsOf, Sheet, sheetOf}
-use Rattle.session.specs.Session.{State, lentWith, isLent, refusal, refused, runOf, accepted, Outcome, outcome, finished, performed, withWords, session}
+use Rattle.session.specs.Contents.{startOf, countOf, body, chained, limits, within, Sheet, sheetOf}
+use Rattle.session.specs.Session.{State, lentWith, isLent, refusal, refused, runOf, Outcome, outcome, finished, performed, withWords, session}
 use Rattle.session.specs.Text.{openLines, endLine, stoppedLine, lastLine, isEarly, refusedLine, textOf, linesWith, textFrom, Readable, printed, pool, rendered, into}
 use Rattle.session.proofs.Laws.Contents.{Accepted, bodies, long, twelve, at-most-4}
 use Rattle.session.proofs.Laws.Contents as contents

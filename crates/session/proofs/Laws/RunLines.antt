@@ -11,9 +11,8 @@ use Rattle.machine.specs.declared.code.Command.{Command}
 use Rattle.machine.specs.declared.answer.Answer.{Answer}
 use Rattle.machine.specs.Lent.{Lent}
 use Rattle.machine.specs.Command.{Outcome, command}
-use Rattle.machine.specs.Run.{Ran, ran, before, runToRefusal, openedWords}
+use Rattle.machine.specs.Run.{Ran, ran, before, runToRefusal, accepted, openedWords}
 use Rattle.machine.proofs.Laws.Runs.{to-refusal-none, to-refusal-first, opened-next}
-use Rattle.session.specs.Session.{accepted}
 use Rattle.session.specs.Text.{openLine, openLines, linesWith}
 
 no-lines : (cs : List Command) → openLines cs [] ≡ []

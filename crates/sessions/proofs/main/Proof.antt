@@ -2,10 +2,6 @@ use borrow.Author.Needs.{needs}
 use Prim.Native.Nat.{_-_}
 use Rattle.sessions.proofs.main.Statement.{statement}
 use Rattle.sessions.proofs.main.Tie as tie
-use Rattle.sessions.proofs.main.Reads as reads
-use Rattle.sessions.proofs.main.Lts as lts
-use Rattle.os.proofs.arg_count.Reads as arg-count-reads
-use Rattle.sessions.proofs.print_argument.Reads as print-argument-reads
 
 abbrev Inv-loop : tie.InvT-loop
 Inv-loop count k₀ k = Unit

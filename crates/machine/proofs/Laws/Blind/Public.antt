@@ -7,11 +7,9 @@ use lib.Dec.{eqb}
 use Rattle.protocols.specs.declared.place.Place.{Place}
 use Rattle.machine.specs.declared.code.Command.{Command}
 use Rattle.machine.specs.declared.lent.Sizes.{Sizes}
-use Rattle.machine.specs.declared.judge.Verdict.{Verdict}
-use Rattle.machine.specs.declared.judge.Verdict.the-variants.{Accepted, Refused}
 use Rattle.machine.specs.Table.{row, moved}
 use Rattle.machine.specs.Lent.{Lent, sizes}
-use Rattle.machine.specs.Verdict.{number, verdict}
+use Rattle.machine.specs.Verdict.{Verdict, Accepted, Refused, number, verdict}
 use Rattle.machine.specs.Command.{Outcome, put, accepted, decided, command}
 use Rattle.machine.specs.Run.{Reply}
 use Rattle.machine.proofs.Laws.Agree.{draws, sizes-left}

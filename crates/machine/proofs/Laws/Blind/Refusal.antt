@@ -12,9 +12,8 @@ use Rattle.protocols.specs.Place.{Tapes, Lists}
 use Rattle.protocols.specs.Contents.{Below as AllBelow, Contents}
 use Rattle.machine.specs.declared.code.Command.{Command}
 use Rattle.machine.specs.declared.lent.Sizes.{Sizes}
-use Rattle.machine.specs.declared.judge.Verdict.{Verdict}
 use Rattle.machine.specs.Lent.{Tables, Lent, lent, lengths, sizes, AreWords}
-use Rattle.machine.specs.Verdict.{number, verdict}
+use Rattle.machine.specs.Verdict.{Verdict, number, verdict}
 use Rattle.machine.specs.Command.{Outcome, command}
 use Rattle.machine.specs.Registers.{Registers, registers, judge, step, shown, leads, leadsToRefusal}
 use Rattle.machine.specs.Start.{start}

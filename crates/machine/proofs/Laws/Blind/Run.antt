@@ -17,11 +17,9 @@ use Rattle.machine.specs.declared.code.Command.{Command}
 use Rattle.machine.specs.declared.code.Code.{Code}
 use Rattle.machine.specs.declared.code.Code.the-variants.{Open}
 use Rattle.machine.specs.declared.lent.Sizes.{Sizes}
-use Rattle.machine.specs.declared.judge.Verdict.{Verdict}
-use Rattle.machine.specs.declared.judge.Verdict.the-variants.{Accepted, Refused}
 use Rattle.machine.specs.Table.{row, opens, moved}
 use Rattle.machine.specs.Lent.{Tables, Lent, table, sizes, entry, sharesAt, AreWords}
-use Rattle.machine.specs.Verdict.{verdict}
+use Rattle.machine.specs.Verdict.{Verdict, Accepted, Refused, verdict}
 use Rattle.machine.specs.Steps.{protocol}
 use Rattle.machine.specs.Command.{put}
 use Rattle.machine.specs.Registers.{Registers, named, judge, after, step, shown, leads}

@@ -13,11 +13,9 @@ use Rattle.protocols.proofs.Laws.Blocks.{block-cut, rest-rest}
 use Rattle.protocols.proofs.Laws.Blind.Compose.{then-draws, then-result}
 use Rattle.machine.specs.declared.code.Command.{Command}
 use Rattle.machine.specs.declared.lent.Sizes.{Sizes}
-use Rattle.machine.specs.declared.judge.Verdict.{Verdict}
-use Rattle.machine.specs.declared.judge.Verdict.the-variants.{Accepted, Refused}
 use Rattle.machine.specs.Table.{row}
 use Rattle.machine.specs.Lent.{Lent, lent, sizes}
-use Rattle.machine.specs.Verdict.{number, verdict}
+use Rattle.machine.specs.Verdict.{Verdict, Accepted, Refused, number, verdict}
 use Rattle.machine.specs.Steps.{protocol}
 use Rattle.machine.specs.Command.{accepted, decided, command}
 use Rattle.machine.specs.Run.{Ran, run, Reply, reply}

@@ -6,10 +6,6 @@ use lib.Seq.{length-take-le}
 use borrow.Author.Needs.{needs}
 use Rattle.pool.proofs.input.read_whole.Statement.{statement}
 use Rattle.pool.proofs.input.read_whole.Tie as tie
-use Rattle.pool.proofs.input.read_whole.Reads as reads
-use Rattle.pool.proofs.input.read_whole.Lts as lts
-use Rattle.io.proofs.count.Reads as count-reads
-use Rattle.libc.proofs.read.Reads as read-reads
 
 abbrev Inv-loop : tie.InvT-loop
 Inv-loop file₀ done₀ file done = (done ≤ length file) × (length file ≡ length file₀)

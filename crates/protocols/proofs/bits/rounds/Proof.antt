@@ -8,7 +8,7 @@ use lib.ListN.{length}
 use borrow.Author.Needs.{needs}
 use Rattle.protocols.specs.declared.shares.Shares.{Shares}
 use Rattle.protocols.specs.Place.{Lists, lists, tapes}
-use Rattle.protocols.specs.Bits.{deal, rounds, bits}
+use Rattle.protocols.specs.Bits.{rounds, bits}
 use Rattle.protocols.proofs.Laws.Deliveries.{not-spent, due-fits}
 use Rattle.protocols.proofs.Laws.Perform.{Performed, delivery-done}
 use Rattle.protocols.proofs.Laws.Lent.{sentBefore, rounds-begun, rounds-unmasked, rounds-undealt, rounds-more, rounds-stopped, bits-spent, bits-done}
@@ -16,14 +16,14 @@ use Rattle.protocols.proofs.bits.rounds.Statement.{statement}
 use Rattle.protocols.proofs.bits.rounds.Tie as tie
 
 abbrev Inv-loop : tie.InvT-loop
-Inv-loop place tape1 tape2 tape3 list1₀ list2₀ list3₀ r r2 bar2 r3 bar3 held₀ at₀ k₀ list1 list2 list3 held at k =
+Inv-loop place tape1 tape2 tape3 list1₀ list2₀ list3₀ r r2 bar2 held₀ at₀ k₀ list1 list2 list3 held at k =
     (k ≤ 5) × (length list1 ≡ length list1₀) × (length list2 ≡ length list2₀) × (length list3 ≡ length list3₀) ×
     ((u : Shares) (l : Lists)
     → Performed (rounds 5 0) u place (tapes [] tape1 tape2 tape3) l held₀ (lists list1₀ list2₀ list3₀ []) (sentBefore 0) at₀
     → Performed (rounds 5 k) u place (tapes [] tape1 tape2 tape3) l held (lists list1 list2 list3 []) (sentBefore k) at)
 
 abbrev μ-loop : tie.MeasureT-loop
-μ-loop place tape1 tape2 tape3 list1₀ list2₀ list3₀ r r2 bar2 r3 bar3 held₀ at₀ k₀ list1 list2 list3 held at k = 5 - k
+μ-loop place tape1 tape2 tape3 list1₀ list2₀ list3₀ r r2 bar2 held₀ at₀ k₀ list1 list2 list3 held at k = 5 - k
 
 draw-triple-requires : tie.Need-draw-triple-requires Inv-loop μ-loop
 draw-triple-requires c κs = tt
@@ -38,7 +38,7 @@ refused-requires : tie.Need-refused-requires Inv-loop μ-loop
 refused-requires c κs = tt
 
 returns : tie.Need-returns Inv-loop μ-loop
-returns c = let e = (c .before .before .before .before .before .before .before .before .before .before .pre) .0 in not-spent (bits 5) ((c .before .before .before .before .before .before .before .before .before .before .args) .u) ((c .before .before .before .before .before .before .before .before .before .before .args) .place) (tapes [] ((c .before .before .before .before .before .before .before .before .before .before .args) .tape1 .now) ((c .before .before .before .before .before .before .before .before .before .before .args) .tape2 .now) ((c .before .before .before .before .before .before .before .before .before .before .args) .tape3 .now)) e (bits-spent 5 _ _ _ 0 (omega arith) (rounds-undealt 5 ((c .before .before .before .before .before .before .before .before .before .before .args) .u) ((c .before .before .before .before .before .before .before .before .before .before .args) .place) (tapes [] ((c .before .before .before .before .before .before .before .before .before .before .args) .tape1 .now) ((c .before .before .before .before .before .before .before .before .before .before .args) .tape2 .now) ((c .before .before .before .before .before .before .before .before .before .before .args) .tape3 .now)) (sym ((c .before .before .before .draw-triple) .ensures) ∙ (c .before .enum-told) .given .1))) _
+returns c = not-spent (bits 5) ((c .before .before .before .before .before .before .before .before .before .before .args) .u) ((c .before .before .before .before .before .before .before .before .before .before .args) .place) (tapes [] ((c .before .before .before .before .before .before .before .before .before .before .args) .tape1 .now) ((c .before .before .before .before .before .before .before .before .before .before .args) .tape2 .now) ((c .before .before .before .before .before .before .before .before .before .before .args) .tape3 .now)) ((c .before .before .before .before .before .before .before .before .before .before .pre) .0) (bits-spent 5 _ _ _ 0 (omega arith) (rounds-undealt 5 ((c .before .before .before .before .before .before .before .before .before .before .args) .u) ((c .before .before .before .before .before .before .before .before .before .before .args) .place) (tapes [] ((c .before .before .before .before .before .before .before .before .before .before .args) .tape1 .now) ((c .before .before .before .before .before .before .before .before .before .before .args) .tape2 .now) ((c .before .before .before .before .before .before .before .before .before .before .args) .tape3 .now)) (sym ((c .before .before .before .draw-triple) .ensures) ∙ (c .before .enum-told) .given .1))) _
 
 draw-pairs-requires : tie.Need-draw-pairs-requires Inv-loop μ-loop
 draw-pairs-requires c κs = tt
@@ -53,43 +53,10 @@ refused-requires-2 : tie.Need-refused-requires-2 Inv-loop μ-loop
 refused-requires-2 c κs = tt
 
 returns-2 : tie.Need-returns-2 Inv-loop μ-loop
-returns-2 c = let e = (c .before .before .before .before .before .before .before .before .before .before .before .before .before .before .pre) .0 in not-spent (bits 5) ((c .before .before .before .before .before .before .before .before .before .before .before .before .before .before .args) .u) ((c .before .before .before .before .before .before .before .before .before .before .before .before .before .before .args) .place) (tapes [] ((c .before .before .before .before .before .before .before .before .before .before .before .before .before .before .args) .tape1 .now) ((c .before .before .before .before .before .before .before .before .before .before .before .before .before .before .args) .tape2 .now) ((c .before .before .before .before .before .before .before .before .before .before .before .before .before .before .args) .tape3 .now)) e (bits-spent 5 _ _ _ 0 (omega arith) (rounds-unmasked 5 ((c .before .before .before .before .before .before .before .before .before .before .before .before .before .before .args) .u) ((c .before .before .before .before .before .before .before .before .before .before .before .before .before .before .args) .place) (tapes [] ((c .before .before .before .before .before .before .before .before .before .before .before .before .before .before .args) .tape1 .now) ((c .before .before .before .before .before .before .before .before .before .before .before .before .before .before .args) .tape2 .now) ((c .before .before .before .before .before .before .before .before .before .before .before .before .before .before .args) .tape3 .now)) (sym ((c .before .before .before .before .before .before .before .draw-triple) .ensures) ∙ (c .before .before .before .before .before .r) .given .1) (sym ((c .before .before .before .draw-pairs) .ensures) ∙ (c .before .enum-told2) .given .1))) _
+returns-2 c = not-spent (bits 5) ((c .before .before .before .before .before .before .before .before .before .before .before .before .before .before .args) .u) ((c .before .before .before .before .before .before .before .before .before .before .before .before .before .before .args) .place) (tapes [] ((c .before .before .before .before .before .before .before .before .before .before .before .before .before .before .args) .tape1 .now) ((c .before .before .before .before .before .before .before .before .before .before .before .before .before .before .args) .tape2 .now) ((c .before .before .before .before .before .before .before .before .before .before .before .before .before .before .args) .tape3 .now)) ((c .before .before .before .before .before .before .before .before .before .before .before .before .before .before .pre) .0) (bits-spent 5 _ _ _ 0 (omega arith) (rounds-unmasked 5 ((c .before .before .before .before .before .before .before .before .before .before .before .before .before .before .args) .u) ((c .before .before .before .before .before .before .before .before .before .before .before .before .before .before .args) .place) (tapes [] ((c .before .before .before .before .before .before .before .before .before .before .before .before .before .before .args) .tape1 .now) ((c .before .before .before .before .before .before .before .before .before .before .before .before .before .before .args) .tape2 .now) ((c .before .before .before .before .before .before .before .before .before .before .before .before .before .before .args) .tape3 .now)) (sym ((c .before .before .before .before .before .before .before .draw-triple) .ensures) ∙ (c .before .before .before .before .before .r) .given .1) (sym ((c .before .before .before .draw-pairs) .ensures) ∙ (c .before .enum-told2) .given .1))) _
 
-sub-requires : tie.Need-sub-requires Inv-loop μ-loop
-sub-requires c κs = tt
-
-sub-requires-2 : tie.Need-sub-requires-2 Inv-loop μ-loop
-sub-requires-2 c κs = tt
-
-add-requires : tie.Need-add-requires Inv-loop μ-loop
-add-requires c κs = tt
-
-add-requires-2 : tie.Need-add-requires-2 Inv-loop μ-loop
-add-requires-2 c κs = tt
-
-start-requires : tie.Need-start-requires Inv-loop μ-loop
-start-requires c κs = tt
-
-slice-aggregate-put : tie.Need-slice-aggregate-put Inv-loop μ-loop
-slice-aggregate-put c = search needs
-
-put-requires : tie.Need-put-requires Inv-loop μ-loop
-put-requires c κs = omega (arith, (c .before .before .before .before .before .before .before .before .before .before .before .before .before .before .before .before .before .before .before .before .before .pre) .1)
-
-slice-aggregate-put-2 : tie.Need-slice-aggregate-put-2 Inv-loop μ-loop
-slice-aggregate-put-2 c = search needs
-
-put-requires-2 : tie.Need-put-requires-2 Inv-loop μ-loop
-put-requires-2 c κs = omega (arith, (c .before .before .before .before .before .before .before .before .before .before .before .before .before .before .before .before .before .before .before .before .before .before .before .before .before .before .pre) .2)
-
-slice-aggregate-put-3 : tie.Need-slice-aggregate-put-3 Inv-loop μ-loop
-slice-aggregate-put-3 c = search needs
-
-put-requires-3 : tie.Need-put-requires-3 Inv-loop μ-loop
-put-requires-3 c κs = omega (arith, (c .before .before .before .before .before .before .before .before .before .before .before .before .before .before .before .before .before .before .before .before .before .before .before .before .before .before .before .before .before .before .before .pre) .3)
-
-begun-requires : tie.Need-begun-requires Inv-loop μ-loop
-begun-requires c κs = tt
+deal-requires : tie.Need-deal-requires Inv-loop μ-loop
+deal-requires c κs = (omega (arith, (c .before .before .before .before .before .before .before .before .before .before .before .before .before .before .before .before .before .pre) .1), omega (arith, (c .before .before .before .before .before .before .before .before .before .before .before .before .before .before .before .before .before .pre) .2), omega (arith, (c .before .before .before .before .before .before .before .before .before .before .before .before .before .before .before .before .before .pre) .3))
 
 loop-holds : tie.Need-loop-holds Inv-loop μ-loop
 loop-holds c = (omega arith, refl, refl, refl, λ u l d. d)
@@ -107,88 +74,54 @@ refused-requires-3 : tie.Need-refused-requires-3 Inv-loop μ-loop
 refused-requires-3 c κs = tt
 
 same-length : tie.Need-same-length Inv-loop μ-loop
-same-length c = (c .before .before .before .before .before .loop) .inv .1 ∙ (c .before .before .before .before .before .before .before .before .before .before .before .before .before .before .before .before .before .before .before .put) .kept .0
+same-length c = (c .before .before .before .before .before .loop) .inv .1 ∙ (c .before .before .before .before .before .before .before .before .before .before .before .before .deal) .kept .1 .1 .1 .1 .1 .1 .0
 
 same-length-2 : tie.Need-same-length-2 Inv-loop μ-loop
-same-length-2 c = (c .before .before .before .before .before .loop) .inv .2 ∙ (c .before .before .before .before .before .before .before .before .before .before .before .before .before .before .put2) .kept .0
+same-length-2 c = (c .before .before .before .before .before .loop) .inv .2 ∙ (c .before .before .before .before .before .before .before .before .before .before .before .before .deal) .kept .1 .1 .1 .1 .1 .1 .1 .0
 
 same-length-3 : tie.Need-same-length-3 Inv-loop μ-loop
-same-length-3 c = (c .before .before .before .before .before .loop) .inv .3 ∙ (c .before .before .before .before .before .before .before .before .before .put3) .kept .0
+same-length-3 c = (c .before .before .before .before .before .loop) .inv .3 ∙ (c .before .before .before .before .before .before .before .before .before .before .before .before .deal) .kept .1 .1 .1 .1 .1 .1 .1 .1 .0
 
 returns-3 : tie.Need-returns-3 Inv-loop μ-loop
-unfolding deal
 returns-3 c =
-    let e = (c .before .before .before .before .before .before .before .before .before .before .before .before .before .before .before .before .before .before .before .before .before .before .before .before .before .before .before .before .before .before .before .before .before .before .before .before .before .before .before .before .before .pre) .0 in
-    let d = (c .before .before .before .before .before .loop) .inv .4 ((c .before .before .before .before .before .before .before .before .before .before .before .before .before .before .before .before .before .before .before .before .before .before .before .before .before .before .before .before .before .before .before .before .before .before .before .before .before .before .before .before .before .args) .u) (lists ((c .before .before .before .before .before .before .before .before .before .before .before .before .before .before .before .before .before .before .before .before .before .before .before .before .before .before .before .before .before .before .before .before .before .before .before .before .before .before .before .before .before .args) .list1 .now) ((c .before .before .before .before .before .before .before .before .before .before .before .before .before .before .before .before .before .before .before .before .before .before .before .before .before .before .before .before .before .before .before .before .before .before .before .before .before .before .before .before .before .args) .list2 .now) ((c .before .before .before .before .before .before .before .before .before .before .before .before .before .before .before .before .before .before .before .before .before .before .before .before .before .before .before .before .before .before .before .before .before .before .before .before .before .before .before .before .before .args) .list3 .now) []) (rounds-begun 5 ((c .before .before .before .before .before .before .before .before .before .before .before .before .before .before .before .before .before .before .before .before .before .before .before .before .before .before .before .before .before .before .before .before .before .before .before .before .before .before .before .before .before .args) .u) ((c .before .before .before .before .before .before .before .before .before .before .before .before .before .before .before .before .before .before .before .before .before .before .before .before .before .before .before .before .before .before .before .before .before .before .before .before .before .before .before .before .before .args) .place) (tapes [] ((c .before .before .before .before .before .before .before .before .before .before .before .before .before .before .before .before .before .before .before .before .before .before .before .before .before .before .before .before .before .before .before .before .before .before .before .before .before .before .before .before .before .args) .tape1 .now) ((c .before .before .before .before .before .before .before .before .before .before .before .before .before .before .before .before .before .before .before .before .before .before .before .before .before .before .before .before .before .before .before .before .before .before .before .before .before .before .before .before .before .args) .tape2 .now) ((c .before .before .before .before .before .before .before .before .before .before .before .before .before .before .before .before .before .before .before .before .before .before .before .before .before .before .before .before .before .before .before .before .before .before .before .before .before .before .before .before .before .args) .tape3 .now)) (sym ((c .before .before .before .before .before .before .before .before .before .before .before .before .before .before .before .before .before .before .before .before .before .before .before .before .before .before .before .before .before .before .before .before .before .before .draw-triple) .ensures) ∙ (c .before .before .before .before .before .before .before .before .before .before .before .before .before .before .before .before .before .before .before .before .before .before .before .before .before .before .before .before .before .before .before .before .r) .given .1) _ _ (sym ((c .before .before .before .before .before .before .before .before .before .before .before .before .before .before .before .before .before .before .before .before .before .before .before .before .before .before .before .before .before .before .draw-pairs) .ensures) ∙ (c .before .before .before .before .before .before .before .before .before .before .before .before .before .before .before .before .before .before .before .before .before .before .before .before .before .before .before .before .q) .given .1) ((c .before .before .before .before .before .before .before .before .before .before .before .before .before .before .before .before .before .before .before .before .before .before .start) .result) (rw ((c .before .before .before .before .before .before .before .before .before .before .before .before .before .before .before .before .before .before .before .before .before .before .start) .ensures, (c .before .before .before .before .before .before .before .before .before .before .before .before .before .before .before .before .before .before .before .before .before .before .before .add2) .ensures, (c .before .before .before .before .before .before .before .before .before .before .before .before .before .before .before .before .before .before .before .before .before .before .before .before .add) .ensures, (c .before .before .before .before .before .before .before .before .before .before .before .before .before .before .before .before .before .before .before .before .before .before .before .before .before .sub2) .ensures, (c .before .before .before .before .before .before .before .before .before .before .before .before .before .before .before .before .before .before .before .before .before .before .before .before .before .before .sub) .ensures)) (lists ((c .before .before .before .before .before .before .before .before .before .before .before .before .before .before .before .before .before .before .before .before .before .before .before .before .before .before .before .before .before .before .before .before .before .before .before .before .before .before .before .before .before .args) .list1 .now) ((c .before .before .before .before .before .before .before .before .before .before .before .before .before .before .before .before .before .before .before .before .before .before .before .before .before .before .before .before .before .before .before .before .before .before .before .before .before .before .before .before .before .args) .list2 .now) ((c .before .before .before .before .before .before .before .before .before .before .before .before .before .before .before .before .before .before .before .before .before .before .before .before .before .before .before .before .before .before .before .before .before .before .before .before .before .before .before .before .before .args) .list3 .now) []) _ (rw ((c .before .before .before .before .before .before .before .before .before .put3) .ensures, (c .before .before .before .before .before .before .before .before .before .before .before .before .before .before .put2) .ensures, (c .before .before .before .before .before .before .before .before .before .before .before .before .before .before .before .before .before .before .before .put) .ensures, (c .before .before .before .before .before .before .before .before .before .before .before .before .before .before .before .before .before .before .before .before .before .before .before .before .before .sub2) .ensures, (c .before .before .before .before .before .before .before .before .before .before .before .before .before .before .before .before .before .before .before .before .before .before .before .before .before .before .sub) .ensures)) ((c .before .before .before .before .before .before .begun) .result) ((c .before .before .before .before .before .before .begun) .ensures)) in
-    not-spent (bits 5) ((c .before .before .before .before .before .before .before .before .before .before .before .before .before .before .before .before .before .before .before .before .before .before .before .before .before .before .before .before .before .before .before .before .before .before .before .before .before .before .before .before .before .args) .u) ((c .before .before .before .before .before .before .before .before .before .before .before .before .before .before .before .before .before .before .before .before .before .before .before .before .before .before .before .before .before .before .before .before .before .before .before .before .before .before .before .before .before .args) .place) (tapes [] ((c .before .before .before .before .before .before .before .before .before .before .before .before .before .before .before .before .before .before .before .before .before .before .before .before .before .before .before .before .before .before .before .before .before .before .before .before .before .before .before .before .before .args) .tape1 .now) ((c .before .before .before .before .before .before .before .before .before .before .before .before .before .before .before .before .before .before .before .before .before .before .before .before .before .before .before .before .before .before .before .before .before .before .before .before .before .before .before .before .before .args) .tape2 .now) ((c .before .before .before .before .before .before .before .before .before .before .before .before .before .before .before .before .before .before .before .before .before .before .before .before .before .before .before .before .before .before .before .before .before .before .before .before .before .before .before .before .before .args) .tape3 .now)) e (bits-spent 5 _ _ _ ((c .before .before .before .before .before .loop) .k + 1) (omega (arith, (c .before .before .before .before .before .loop) .inv .0, (c .before .before .before .before .loop-test) .taken)) (rounds-stopped 5 ((c .before .before .before .before .before .before .before .before .before .before .before .before .before .before .before .before .before .before .before .before .before .before .before .before .before .before .before .before .before .before .before .before .before .before .before .before .before .before .before .before .before .args) .u) ((c .before .before .before .before .before .before .before .before .before .before .before .before .before .before .before .before .before .before .before .before .before .before .before .before .before .before .before .before .before .before .before .before .before .before .before .before .before .before .before .before .before .args) .place) (tapes [] ((c .before .before .before .before .before .before .before .before .before .before .before .before .before .before .before .before .before .before .before .before .before .before .before .before .before .before .before .before .before .before .before .before .before .before .before .before .before .before .before .before .before .args) .tape1 .now) ((c .before .before .before .before .before .before .before .before .before .before .before .before .before .before .before .before .before .before .before .before .before .before .before .before .before .before .before .before .before .before .before .before .before .before .before .before .before .before .before .before .before .args) .tape2 .now) ((c .before .before .before .before .before .before .before .before .before .before .before .before .before .before .before .before .before .before .before .before .before .before .before .before .before .before .before .before .before .before .before .before .before .before .before .before .before .before .before .before .before .args) .tape3 .now)) ((c .before .before .before .before .before .loop) .k) d (sym ((c .before .before .before .draw-pairs2) .ensures) ∙ (c .before .enum-told3) .given .1))) _
+    let d = (c .before .before .before .before .before .loop) .inv .4 ((c .before .before .before .before .before .before .before .before .before .before .before .before .before .before .before .before .before .before .before .before .before .before .before .before .before .before .before .before .before .before .args) .u) (lists ((c .before .before .before .before .before .before .before .before .before .before .before .before .before .before .before .before .before .before .before .before .before .before .before .before .before .before .before .before .before .before .args) .list1 .now) ((c .before .before .before .before .before .before .before .before .before .before .before .before .before .before .before .before .before .before .before .before .before .before .before .before .before .before .before .before .before .before .args) .list2 .now) ((c .before .before .before .before .before .before .before .before .before .before .before .before .before .before .before .before .before .before .before .before .before .before .before .before .before .before .before .before .before .before .args) .list3 .now) []) (rounds-begun 5 ((c .before .before .before .before .before .before .before .before .before .before .before .before .before .before .before .before .before .before .before .before .before .before .before .before .before .before .before .before .before .before .args) .u) ((c .before .before .before .before .before .before .before .before .before .before .before .before .before .before .before .before .before .before .before .before .before .before .before .before .before .before .before .before .before .before .args) .place) (tapes [] ((c .before .before .before .before .before .before .before .before .before .before .before .before .before .before .before .before .before .before .before .before .before .before .before .before .before .before .before .before .before .before .args) .tape1 .now) ((c .before .before .before .before .before .before .before .before .before .before .before .before .before .before .before .before .before .before .before .before .before .before .before .before .before .before .before .before .before .before .args) .tape2 .now) ((c .before .before .before .before .before .before .before .before .before .before .before .before .before .before .before .before .before .before .before .before .before .before .before .before .before .before .before .before .before .before .args) .tape3 .now)) (sym ((c .before .before .before .before .before .before .before .before .before .before .before .before .before .before .before .before .before .before .before .before .before .before .before .draw-triple) .ensures) ∙ (c .before .before .before .before .before .before .before .before .before .before .before .before .before .before .before .before .before .before .before .before .before .r) .given .1) _ _ (sym ((c .before .before .before .before .before .before .before .before .before .before .before .before .before .before .before .before .before .before .before .draw-pairs) .ensures) ∙ (c .before .before .before .before .before .before .before .before .before .before .before .before .before .before .before .before .before .q) .given .1) (lists ((c .before .before .before .before .before .before .before .before .before .before .before .before .before .before .before .before .before .before .before .before .before .before .before .before .before .before .before .before .before .before .args) .list1 .now) ((c .before .before .before .before .before .before .before .before .before .before .before .before .before .before .before .before .before .before .before .before .before .before .before .before .before .before .before .before .before .before .args) .list2 .now) ((c .before .before .before .before .before .before .before .before .before .before .before .before .before .before .before .before .before .before .before .before .before .before .before .before .before .before .before .before .before .before .args) .list3 .now) []) _ ((c .before .before .before .before .before .before .before .before .before .before .before .before .deal) .result) ((c .before .before .before .before .before .before .before .before .before .before .before .before .deal) .ensures)) in
+    not-spent (bits 5) ((c .before .before .before .before .before .before .before .before .before .before .before .before .before .before .before .before .before .before .before .before .before .before .before .before .before .before .before .before .before .before .args) .u) ((c .before .before .before .before .before .before .before .before .before .before .before .before .before .before .before .before .before .before .before .before .before .before .before .before .before .before .before .before .before .before .args) .place) (tapes [] ((c .before .before .before .before .before .before .before .before .before .before .before .before .before .before .before .before .before .before .before .before .before .before .before .before .before .before .before .before .before .before .args) .tape1 .now) ((c .before .before .before .before .before .before .before .before .before .before .before .before .before .before .before .before .before .before .before .before .before .before .before .before .before .before .before .before .before .before .args) .tape2 .now) ((c .before .before .before .before .before .before .before .before .before .before .before .before .before .before .before .before .before .before .before .before .before .before .before .before .before .before .before .before .before .before .args) .tape3 .now)) ((c .before .before .before .before .before .before .before .before .before .before .before .before .before .before .before .before .before .before .before .before .before .before .before .before .before .before .before .before .before .before .pre) .0) (bits-spent 5 _ _ _ ((c .before .before .before .before .before .loop) .k + 1) (omega (arith, (c .before .before .before .before .before .loop) .inv .0, (c .before .before .before .before .loop-test) .taken)) (rounds-stopped 5 ((c .before .before .before .before .before .before .before .before .before .before .before .before .before .before .before .before .before .before .before .before .before .before .before .before .before .before .before .before .before .before .args) .u) ((c .before .before .before .before .before .before .before .before .before .before .before .before .before .before .before .before .before .before .before .before .before .before .before .before .before .before .before .before .before .before .args) .place) (tapes [] ((c .before .before .before .before .before .before .before .before .before .before .before .before .before .before .before .before .before .before .before .before .before .before .before .before .before .before .before .before .before .before .args) .tape1 .now) ((c .before .before .before .before .before .before .before .before .before .before .before .before .before .before .before .before .before .before .before .before .before .before .before .before .before .before .before .before .before .before .args) .tape2 .now) ((c .before .before .before .before .before .before .before .before .before .before .before .before .before .before .before .before .before .before .before .before .before .before .before .before .before .before .before .before .before .before .args) .tape3 .now)) ((c .before .before .before .before .before .loop) .k) d (sym ((c .before .before .before .draw-pairs2) .ensures) ∙ (c .before .enum-told3) .given .1))) _
 
-masked-requires : tie.Need-masked-requires Inv-loop μ-loop
-masked-requires c κs = tt
-
-masked-requires-2 : tie.Need-masked-requires-2 Inv-loop μ-loop
-masked-requires-2 c κs = tt
-
-cast-sent : tie.Need-cast-sent Inv-loop μ-loop
-cast-sent c = search needs
-
-mul-sent : tie.Need-mul-sent Inv-loop μ-loop
-mul-sent c = omega (arith, (c .before .before .before .before .before .before .before .loop) .inv .0)
-
-add-put-round : tie.Need-add-put-round Inv-loop μ-loop
-add-put-round c = omega (arith, (c .before .before .before .before .before .before .before .before .loop) .inv .0)
-
-put-round-requires : tie.Need-put-round-requires Inv-loop μ-loop
-put-round-requires c κs = omega (arith, (c .before .before .before .before .before .before .before .before .before .before .before .before .before .before .before .before .before .before .before .before .before .before .before .before .before .before .before .before .before .before .before .before .before .before .before .before .before .before .before .before .before .before .before .before .pre) .1, (c .before .before .before .before .before .before .before .before .loop) .inv .0, (c .before .before .before .before .before .before .before .before .loop) .inv .1, (c .before .before .before .before .before .before .before .before .before .before .before .before .before .before .before .before .before .before .before .before .before .before .put) .kept .0, (c .before .before .before .before .before .before .before .loop-test) .taken)
-
-add-put-round-2 : tie.Need-add-put-round-2 Inv-loop μ-loop
-add-put-round-2 c = omega (arith, (c .before .before .before .before .before .before .before .before .before .before .before .before .loop) .inv .0)
-
-put-round-requires-2 : tie.Need-put-round-requires-2 Inv-loop μ-loop
-put-round-requires-2 c κs = omega (arith, (c .before .before .before .before .before .before .before .before .before .before .before .before .before .before .before .before .before .before .before .before .before .before .before .before .before .before .before .before .before .before .before .before .before .before .before .before .before .before .before .before .before .before .before .before .before .before .before .before .pre) .2, (c .before .before .before .before .before .before .before .before .before .before .before .before .loop) .inv .0, (c .before .before .before .before .before .before .before .before .before .before .before .before .loop) .inv .2, (c .before .before .before .before .before .before .before .before .before .before .before .before .before .before .before .before .before .before .before .before .before .put2) .kept .0, (c .before .before .before .before .before .before .before .before .before .before .before .loop-test) .taken)
-
-add-put-round-3 : tie.Need-add-put-round-3 Inv-loop μ-loop
-add-put-round-3 c = omega (arith, (c .before .before .before .before .before .before .before .before .before .before .before .before .before .before .before .before .loop) .inv .0)
-
-put-round-requires-3 : tie.Need-put-round-requires-3 Inv-loop μ-loop
-put-round-requires-3 c κs = omega (arith, (c .before .before .before .before .before .before .before .before .before .before .before .before .before .before .before .before .before .before .before .before .before .before .before .before .before .before .before .before .before .before .before .before .before .before .before .before .before .before .before .before .before .before .before .before .before .before .before .before .before .before .before .before .pre) .3, (c .before .before .before .before .before .before .before .before .before .before .before .before .before .before .before .before .loop) .inv .0, (c .before .before .before .before .before .before .before .before .before .before .before .before .before .before .before .before .loop) .inv .3, (c .before .before .before .before .before .before .before .before .before .before .before .before .before .before .before .before .before .before .before .before .put3) .kept .0, (c .before .before .before .before .before .before .before .before .before .before .before .before .before .before .before .loop-test) .taken)
-
-carried-requires : tie.Need-carried-requires Inv-loop μ-loop
-carried-requires c κs = (c .before .before .before .before .before .before .before .before .before .before .before .before .before .before .before .before .before .before .loop-test) .taken
+round-requires : tie.Need-round-requires Inv-loop μ-loop
+round-requires c κs = ((c .before .before .before .before .before .before .before .loop-test) .taken, omega (arith, (c .before .before .before .before .before .before .before .before .before .before .before .before .before .before .before .before .before .before .before .before .before .before .before .before .before .before .before .before .before .before .before .before .before .pre) .1, (c .before .before .before .before .before .before .before .before .loop) .inv .1, (c .before .before .before .before .before .before .before .before .before .before .before .before .before .before .before .deal) .kept .1 .1 .1 .1 .1 .1 .0), omega (arith, (c .before .before .before .before .before .before .before .before .before .before .before .before .before .before .before .before .before .before .before .before .before .before .before .before .before .before .before .before .before .before .before .before .before .pre) .2, (c .before .before .before .before .before .before .before .before .loop) .inv .2, (c .before .before .before .before .before .before .before .before .before .before .before .before .before .before .before .deal) .kept .1 .1 .1 .1 .1 .1 .1 .0), omega (arith, (c .before .before .before .before .before .before .before .before .before .before .before .before .before .before .before .before .before .before .before .before .before .before .before .before .before .before .before .before .before .before .before .before .before .pre) .3, (c .before .before .before .before .before .before .before .before .loop) .inv .3, (c .before .before .before .before .before .before .before .before .before .before .before .before .before .before .before .deal) .kept .1 .1 .1 .1 .1 .1 .1 .1 .0))
 
 add-k : tie.Need-add-k Inv-loop μ-loop
-add-k c = omega (arith, (c .before .before .before .before .before .before .before .before .before .before .before .before .before .before .before .before .before .before .before .before .loop) .inv .0, (c .before .before .before .before .before .before .before .before .before .before .before .before .before .before .before .before .before .before .before .loop-test) .taken)
+add-k c = omega (arith, (c .before .before .before .before .before .before .before .before .before .before .before .before .before .before .before .loop) .inv .0, (c .before .before .before .before .before .before .before .before .before .before .before .before .before .before .loop-test) .taken)
 
 loop-less : tie.Need-loop-less Inv-loop μ-loop
-loop-less c = omega (arith, (c .before .before .before .before .before .before .before .before .before .before .before .before .before .before .before .before .before .before .before .before .loop) .inv .0, (c .before .before .before .before .before .before .before .before .before .before .before .before .before .before .before .before .before .before .before .loop-test) .taken)
+loop-less c = omega (arith, (c .before .before .before .before .before .before .before .before .before .before .before .before .before .before .before .loop) .inv .0, (c .before .before .before .before .before .before .before .before .before .before .before .before .before .before .loop-test) .taken)
 
 loop-again : tie.Need-loop-again Inv-loop μ-loop
 loop-again c = (
-  omega (arith, (c .before .before .before .before .before .before .before .before .before .before .before .before .before .before .before .before .before .before .before .before .loop) .inv .0, (c .before .before .before .before .before .before .before .before .before .before .before .before .before .before .before .before .before .before .before .loop-test) .taken),
-  (c .before .before .before .before .before .before .before .before .before .before .before .put-round) .kept .0 ∙ (c .before .before .before .before .before .before .before .before .before .before .before .before .before .before .before .before .before .before .before .before .loop) .inv .1,
-  (c .before .before .before .before .before .before .before .put-round2) .kept .0 ∙ (c .before .before .before .before .before .before .before .before .before .before .before .before .before .before .before .before .before .before .before .before .loop) .inv .2,
-  (c .before .before .before .put-round3) .kept .0 ∙ (c .before .before .before .before .before .before .before .before .before .before .before .before .before .before .before .before .before .before .before .before .loop) .inv .3,
-  λ u l d. rw ((c .carried) .ensures, (c .before .before .before .before .before .before .before .before .before .before .before .before .before .before .masked) .ensures, (c .before .before .before .before .before .before .before .before .before .before .before .before .before .masked2) .ensures)
-      (rounds-more 5 u _ _ ((c .before .before .before .before .before .before .before .before .before .before .before .before .before .before .before .before .before .before .before .before .loop) .k) ((c .before .before .before .before .before .before .before .before .before .before .before .before .before .before .before .before .before .before .before .before .loop) .inv .4 u l d) _ _ (sym ((c .before .before .before .before .before .before .before .before .before .before .before .before .before .before .before .before .before .before .draw-pairs2) .ensures) ∙ (c .before .before .before .before .before .before .before .before .before .before .before .before .before .before .before .before .q2) .given .1) _ (rw ((c .before .before .before .put-round3) .ensures, (c .before .before .before .before .before .before .before .put-round2) .ensures, (c .before .before .before .before .before .before .before .before .before .before .before .put-round) .ensures, (c .before .before .before .before .before .before .before .before .before .before .before .before .before .before .masked) .ensures, (c .before .before .before .before .before .before .before .before .before .before .before .before .before .masked2) .ensures))),
+  omega (arith, (c .before .before .before .before .before .before .before .before .before .before .before .before .before .before .before .loop) .inv .0, (c .before .before .before .before .before .before .before .before .before .before .before .before .before .before .loop-test) .taken),
+  (c .before .before .before .before .before .before .round) .kept .1 .1 .1 .1 .0 ∙ (c .before .before .before .before .before .before .before .before .before .before .before .before .before .before .before .loop) .inv .1,
+  (c .before .before .before .before .before .before .round) .kept .1 .1 .1 .1 .1 .0 ∙ (c .before .before .before .before .before .before .before .before .before .before .before .before .before .before .before .loop) .inv .2,
+  (c .before .before .before .before .before .before .round) .kept .1 .1 .1 .1 .1 .1 .0 ∙ (c .before .before .before .before .before .before .before .before .before .before .before .before .before .before .before .loop) .inv .3,
+  λ u l d. rounds-more 5 u _ _ ((c .before .before .before .before .before .before .before .before .before .before .before .before .before .before .before .loop) .k) ((c .before .before .before .before .before .before .before .before .before .before .before .before .before .before .before .loop) .inv .4 u l d) _ _ (sym ((c .before .before .before .before .before .before .before .before .before .before .before .before .before .draw-pairs2) .ensures) ∙ (c .before .before .before .before .before .before .before .before .before .before .before .q2) .given .1) _ ((c .before .before .before .before .before .before .round) .result) ((c .before .before .before .before .before .before .round) .ensures),
 )
 
 joined-requires : tie.Need-joined-requires Inv-loop μ-loop
 joined-requires c κs = tt
 
 same-length-4 : tie.Need-same-length-4 Inv-loop μ-loop
-same-length-4 c = (c .before .before .loop) .inv .1 ∙ (c .before .before .before .before .before .before .before .before .before .before .before .before .before .before .before .before .put) .kept .0
+same-length-4 c = (c .before .before .loop) .inv .1 ∙ (c .before .before .before .before .before .before .before .before .before .deal) .kept .1 .1 .1 .1 .1 .1 .0
 
 same-length-5 : tie.Need-same-length-5 Inv-loop μ-loop
-same-length-5 c = (c .before .before .loop) .inv .2 ∙ (c .before .before .before .before .before .before .before .before .before .before .before .put2) .kept .0
+same-length-5 c = (c .before .before .loop) .inv .2 ∙ (c .before .before .before .before .before .before .before .before .before .deal) .kept .1 .1 .1 .1 .1 .1 .1 .0
 
 same-length-6 : tie.Need-same-length-6 Inv-loop μ-loop
-same-length-6 c = (c .before .before .loop) .inv .3 ∙ (c .before .before .before .before .before .before .put3) .kept .0
+same-length-6 c = (c .before .before .loop) .inv .3 ∙ (c .before .before .before .before .before .before .before .before .before .deal) .kept .1 .1 .1 .1 .1 .1 .1 .1 .0
 
 returns-4 : tie.Need-returns-4 Inv-loop μ-loop
-unfolding deal
 returns-4 c =
-    let d = (c .before .before .loop) .inv .4 ((c .before .before .before .before .before .before .before .before .before .before .before .before .before .before .before .before .before .before .before .before .before .before .before .before .before .before .before .before .before .before .before .before .before .before .before .before .before .before .args) .u) (lists ((c .before .before .before .before .before .before .before .before .before .before .before .before .before .before .before .before .before .before .before .before .before .before .before .before .before .before .before .before .before .before .before .before .before .before .before .before .before .before .args) .list1 .now) ((c .before .before .before .before .before .before .before .before .before .before .before .before .before .before .before .before .before .before .before .before .before .before .before .before .before .before .before .before .before .before .before .before .before .before .before .before .before .before .args) .list2 .now) ((c .before .before .before .before .before .before .before .before .before .before .before .before .before .before .before .before .before .before .before .before .before .before .before .before .before .before .before .before .before .before .before .before .before .before .before .before .before .before .args) .list3 .now) []) (rounds-begun 5 ((c .before .before .before .before .before .before .before .before .before .before .before .before .before .before .before .before .before .before .before .before .before .before .before .before .before .before .before .before .before .before .before .before .before .before .before .before .before .before .args) .u) ((c .before .before .before .before .before .before .before .before .before .before .before .before .before .before .before .before .before .before .before .before .before .before .before .before .before .before .before .before .before .before .before .before .before .before .before .before .before .before .args) .place) (tapes [] ((c .before .before .before .before .before .before .before .before .before .before .before .before .before .before .before .before .before .before .before .before .before .before .before .before .before .before .before .before .before .before .before .before .before .before .before .before .before .before .args) .tape1 .now) ((c .before .before .before .before .before .before .before .before .before .before .before .before .before .before .before .before .before .before .before .before .before .before .before .before .before .before .before .before .before .before .before .before .before .before .before .before .before .before .args) .tape2 .now) ((c .before .before .before .before .before .before .before .before .before .before .before .before .before .before .before .before .before .before .before .before .before .before .before .before .before .before .before .before .before .before .before .before .before .before .before .before .before .before .args) .tape3 .now)) (sym ((c .before .before .before .before .before .before .before .before .before .before .before .before .before .before .before .before .before .before .before .before .before .before .before .before .before .before .before .before .before .before .before .draw-triple) .ensures) ∙ (c .before .before .before .before .before .before .before .before .before .before .before .before .before .before .before .before .before .before .before .before .before .before .before .before .before .before .before .before .before .r) .given .1) _ _ (sym ((c .before .before .before .before .before .before .before .before .before .before .before .before .before .before .before .before .before .before .before .before .before .before .before .before .before .before .before .draw-pairs) .ensures) ∙ (c .before .before .before .before .before .before .before .before .before .before .before .before .before .before .before .before .before .before .before .before .before .before .before .before .before .q) .given .1) ((c .before .before .before .before .before .before .before .before .before .before .before .before .before .before .before .before .before .before .before .start) .result) (rw ((c .before .before .before .before .before .before .before .before .before .before .before .before .before .before .before .before .before .before .before .start) .ensures, (c .before .before .before .before .before .before .before .before .before .before .before .before .before .before .before .before .before .before .before .before .add2) .ensures, (c .before .before .before .before .before .before .before .before .before .before .before .before .before .before .before .before .before .before .before .before .before .add) .ensures, (c .before .before .before .before .before .before .before .before .before .before .before .before .before .before .before .before .before .before .before .before .before .before .sub2) .ensures, (c .before .before .before .before .before .before .before .before .before .before .before .before .before .before .before .before .before .before .before .before .before .before .before .sub) .ensures)) (lists ((c .before .before .before .before .before .before .before .before .before .before .before .before .before .before .before .before .before .before .before .before .before .before .before .before .before .before .before .before .before .before .before .before .before .before .before .before .before .before .args) .list1 .now) ((c .before .before .before .before .before .before .before .before .before .before .before .before .before .before .before .before .before .before .before .before .before .before .before .before .before .before .before .before .before .before .before .before .before .before .before .before .before .before .args) .list2 .now) ((c .before .before .before .before .before .before .before .before .before .before .before .before .before .before .before .before .before .before .before .before .before .before .before .before .before .before .before .before .before .before .before .before .before .before .before .before .before .before .args) .list3 .now) []) _ (rw ((c .before .before .before .before .before .before .put3) .ensures, (c .before .before .before .before .before .before .before .before .before .before .before .put2) .ensures, (c .before .before .before .before .before .before .before .before .before .before .before .before .before .before .before .before .put) .ensures, (c .before .before .before .before .before .before .before .before .before .before .before .before .before .before .before .before .before .before .before .before .before .before .sub2) .ensures, (c .before .before .before .before .before .before .before .before .before .before .before .before .before .before .before .before .before .before .before .before .before .before .before .sub) .ensures)) ((c .before .before .before .begun) .result) ((c .before .before .before .begun) .ensures)) in
+    let d = (c .before .before .loop) .inv .4 ((c .before .before .before .before .before .before .before .before .before .before .before .before .before .before .before .before .before .before .before .before .before .before .before .before .before .before .before .args) .u) (lists ((c .before .before .before .before .before .before .before .before .before .before .before .before .before .before .before .before .before .before .before .before .before .before .before .before .before .before .before .args) .list1 .now) ((c .before .before .before .before .before .before .before .before .before .before .before .before .before .before .before .before .before .before .before .before .before .before .before .before .before .before .before .args) .list2 .now) ((c .before .before .before .before .before .before .before .before .before .before .before .before .before .before .before .before .before .before .before .before .before .before .before .before .before .before .before .args) .list3 .now) []) (rounds-begun 5 ((c .before .before .before .before .before .before .before .before .before .before .before .before .before .before .before .before .before .before .before .before .before .before .before .before .before .before .before .args) .u) ((c .before .before .before .before .before .before .before .before .before .before .before .before .before .before .before .before .before .before .before .before .before .before .before .before .before .before .before .args) .place) (tapes [] ((c .before .before .before .before .before .before .before .before .before .before .before .before .before .before .before .before .before .before .before .before .before .before .before .before .before .before .before .args) .tape1 .now) ((c .before .before .before .before .before .before .before .before .before .before .before .before .before .before .before .before .before .before .before .before .before .before .before .before .before .before .before .args) .tape2 .now) ((c .before .before .before .before .before .before .before .before .before .before .before .before .before .before .before .before .before .before .before .before .before .before .before .before .before .before .before .args) .tape3 .now)) (sym ((c .before .before .before .before .before .before .before .before .before .before .before .before .before .before .before .before .before .before .before .before .draw-triple) .ensures) ∙ (c .before .before .before .before .before .before .before .before .before .before .before .before .before .before .before .before .before .before .r) .given .1) _ _ (sym ((c .before .before .before .before .before .before .before .before .before .before .before .before .before .before .before .before .draw-pairs) .ensures) ∙ (c .before .before .before .before .before .before .before .before .before .before .before .before .before .before .q) .given .1) (lists ((c .before .before .before .before .before .before .before .before .before .before .before .before .before .before .before .before .before .before .before .before .before .before .before .before .before .before .before .args) .list1 .now) ((c .before .before .before .before .before .before .before .before .before .before .before .before .before .before .before .before .before .before .before .before .before .before .before .before .before .before .before .args) .list2 .now) ((c .before .before .before .before .before .before .before .before .before .before .before .before .before .before .before .before .before .before .before .before .before .before .before .before .before .before .before .args) .list3 .now) []) _ ((c .before .before .before .before .before .before .before .before .before .deal) .result) ((c .before .before .before .before .before .before .before .before .before .deal) .ensures)) in
     let e : (c .before .before .loop) .k ≡ 5 = omega (arith, (c .before .before .loop) .inv .0, (c .before .loop-test) .left) in
-    rw ((c .joined) .ensures) (delivery-done (bits 5) _ _ _ (bits-done 5 _ _ _ (rw e at d)) (due-fits 22 25 25 (lists ((c .before .before .before .before .before .before .before .before .before .before .before .before .before .before .before .before .before .before .before .before .before .before .before .before .before .before .before .before .before .before .before .before .before .before .before .before .before .before .args) .list1 .now) ((c .before .before .before .before .before .before .before .before .before .before .before .before .before .before .before .before .before .before .before .before .before .before .before .before .before .before .before .before .before .before .before .before .before .before .before .before .before .before .args) .list2 .now) ((c .before .before .before .before .before .before .before .before .before .before .before .before .before .before .before .before .before .before .before .before .before .before .before .before .before .before .before .before .before .before .before .before .before .before .before .before .before .before .args) .list3 .now) []) ((c .before .before .before .before .before .before .before .before .before .before .before .before .before .before .before .before .before .before .before .before .before .before .before .before .before .before .before .before .before .before .before .before .before .before .before .before .before .before .pre) .1, (c .before .before .before .before .before .before .before .before .before .before .before .before .before .before .before .before .before .before .before .before .before .before .before .before .before .before .before .before .before .before .before .before .before .before .before .before .before .before .pre) .2, (c .before .before .before .before .before .before .before .before .before .before .before .before .before .before .before .before .before .before .before .before .before .before .before .before .before .before .before .before .before .before .before .before .before .before .before .before .before .before .pre) .3)))
+    rw ((c .joined) .ensures) (delivery-done (bits 5) _ _ _ (bits-done 5 _ _ _ (rw e at d)) (due-fits 22 25 25 (lists ((c .before .before .before .before .before .before .before .before .before .before .before .before .before .before .before .before .before .before .before .before .before .before .before .before .before .before .before .args) .list1 .now) ((c .before .before .before .before .before .before .before .before .before .before .before .before .before .before .before .before .before .before .before .before .before .before .before .before .before .before .before .args) .list2 .now) ((c .before .before .before .before .before .before .before .before .before .before .before .before .before .before .before .before .before .before .before .before .before .before .before .before .before .before .before .args) .list3 .now) []) ((c .before .before .before .before .before .before .before .before .before .before .before .before .before .before .before .before .before .before .before .before .before .before .before .before .before .before .before .pre) .1, (c .before .before .before .before .before .before .before .before .before .before .before .before .before .before .before .before .before .before .before .before .before .before .before .before .before .before .before .pre) .2, (c .before .before .before .before .before .before .before .before .before .before .before .before .before .before .before .before .before .before .before .before .before .before .before .before .before .before .before .pre) .3)))
 
 pub rounds-spec : {M : Type 1} → statement M
 rounds-spec =
@@ -206,18 +139,7 @@ rounds-spec =
     enum-told-2
     refused-requires-2
     returns-2
-    sub-requires
-    sub-requires-2
-    add-requires
-    add-requires-2
-    start-requires
-    slice-aggregate-put
-    put-requires
-    slice-aggregate-put-2
-    put-requires-2
-    slice-aggregate-put-3
-    put-requires-3
-    begun-requires
+    deal-requires
     loop-holds
     draw-pairs-requires-2
     enum-known-q-2
@@ -227,17 +149,7 @@ rounds-spec =
     same-length-2
     same-length-3
     returns-3
-    masked-requires
-    masked-requires-2
-    cast-sent
-    mul-sent
-    add-put-round
-    put-round-requires
-    add-put-round-2
-    put-round-requires-2
-    add-put-round-3
-    put-round-requires-3
-    carried-requires
+    round-requires
     add-k
     loop-less
     loop-again

@@ -2,9 +2,8 @@
 use Prim.Native.Nat.{_<_}
 use mathlib.Core.Path.{_≡_}
 use lib.Pow.{pow-lt}
-use Rattle.protocols.proofs.Laws.Tables.{stride}
 use Rattle.protocols.specs.WordForm.{sources, spread}
-use Rattle.protocols.proofs.Laws.WordForm.{spread-le}
+use Rattle.protocols.proofs.Laws.WordForm.{stride, spread-le}
 use borrow.Author.Needs.{needs}
 use Rattle.protocols.proofs.bits.spread.Statement.{statement}
 use Rattle.protocols.proofs.bits.spread.Tie as tie

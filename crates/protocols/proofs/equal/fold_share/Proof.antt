@@ -2,9 +2,8 @@
 use Prim.Native.Nat.{_<_}
 use mathlib.Core.Path.{_≡_}
 use lib.Pow.{pow-lt}
-use Rattle.protocols.proofs.Laws.Tables.{stride}
 use Rattle.protocols.specs.WordForm.{heads, others, wordFold}
-use Rattle.protocols.proofs.Laws.WordForm.{word-forms}
+use Rattle.protocols.proofs.Laws.WordForm.{stride, word-forms}
 use borrow.Author.Needs.{needs}
 use Rattle.protocols.proofs.equal.fold_share.Statement.{statement}
 use Rattle.protocols.proofs.equal.fold_share.Tie as tie

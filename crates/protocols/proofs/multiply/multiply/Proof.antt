@@ -49,23 +49,8 @@ fresh-requires c κs = search needs
 fresh-requires-2 : tie.Need-fresh-requires-2
 fresh-requires-2 c κs = search needs
 
-slice-aggregate-put : tie.Need-slice-aggregate-put
-slice-aggregate-put c = search needs
-
-put-requires : tie.Need-put-requires
-put-requires c κs = has-room 4 4 4 (length ((c .before .before .before .before .before .before .before .before .before .before .before .before .before .before .before .before .before .before .before .args) .list1 .now)) (length ((c .before .before .before .before .before .before .before .before .before .before .before .before .before .before .before .before .before .before .before .args) .list2 .now)) (length ((c .before .before .before .before .before .before .before .before .before .before .before .before .before .before .before .before .before .before .before .args) .list3 .now)) (sym ((c .before .before .before .before .before .have-room) .ensures) ∙ not-false _ ((c .before .before .before .before .if1) .left)) .0
-
-slice-aggregate-put-2 : tie.Need-slice-aggregate-put-2
-slice-aggregate-put-2 c = search needs
-
-put-requires-2 : tie.Need-put-requires-2
-put-requires-2 c κs = has-room 4 4 4 (length ((c .before .before .before .before .before .before .before .before .before .before .before .before .before .before .before .before .before .before .before .before .before .before .before .before .args) .list1 .now)) (length ((c .before .before .before .before .before .before .before .before .before .before .before .before .before .before .before .before .before .before .before .before .before .before .before .before .args) .list2 .now)) (length ((c .before .before .before .before .before .before .before .before .before .before .before .before .before .before .before .before .before .before .before .before .before .before .before .before .args) .list3 .now)) (sym ((c .before .before .before .before .before .before .before .before .before .before .have-room) .ensures) ∙ not-false _ ((c .before .before .before .before .before .before .before .before .before .if1) .left)) .1
-
-slice-aggregate-put-3 : tie.Need-slice-aggregate-put-3
-slice-aggregate-put-3 c = search needs
-
-put-requires-3 : tie.Need-put-requires-3
-put-requires-3 c κs = has-room 4 4 4 (length ((c .before .before .before .before .before .before .before .before .before .before .before .before .before .before .before .before .before .before .before .before .before .before .before .before .before .before .before .before .before .args) .list1 .now)) (length ((c .before .before .before .before .before .before .before .before .before .before .before .before .before .before .before .before .before .before .before .before .before .before .before .before .before .before .before .before .before .args) .list2 .now)) (length ((c .before .before .before .before .before .before .before .before .before .before .before .before .before .before .before .before .before .before .before .before .before .before .before .before .before .before .before .before .before .args) .list3 .now)) (sym ((c .before .before .before .before .before .before .before .before .before .before .before .before .before .before .before .have-room) .ensures) ∙ not-false _ ((c .before .before .before .before .before .before .before .before .before .before .before .before .before .before .if1) .left)) .2
+pass-four-requires : tie.Need-pass-four-requires
+pass-four-requires c κs = has-room 4 4 4 (length ((c .before .before .before .before .before .before .before .before .before .before .before .before .before .before .before .before .before .before .before .before .args) .list1 .now)) (length ((c .before .before .before .before .before .before .before .before .before .before .before .before .before .before .before .before .before .before .before .before .args) .list2 .now)) (length ((c .before .before .before .before .before .before .before .before .before .before .before .before .before .before .before .before .before .before .before .before .args) .list3 .now)) (sym ((c .before .before .before .before .before .before .have-room) .ensures) ∙ not-false _ ((c .before .before .before .before .before .if1) .left))
 
 product-requires : tie.Need-product-requires
 product-requires c κs = search needs
@@ -81,7 +66,7 @@ same-length-6 c = search needs
 
 returns-3 : tie.Need-returns-3
 unfolding multiply
-returns-3 c = rw (multiply-performs, sym ((c .before .before .before .before .before .before .before .before .before .before .before .before .before .before .before .before .before .before .before .before .before .before .before .before .before .before .draw-pairs) .ensures) ∙ (c .before .before .before .before .before .before .before .before .before .before .before .before .before .before .before .before .before .before .before .before .before .before .before .before .r) .given .1, sym ((c .before .before .before .before .before .before .before .before .before .before .before .before .before .before .before .before .before .before .before .have-room) .ensures) ∙ not-false _ ((c .before .before .before .before .before .before .before .before .before .before .before .before .before .before .before .before .before .before .if1) .left), (c .product) .ensures, (c .before .before .before .put3) .ensures, (c .before .before .before .before .before .before .before .before .put2) .ensures, (c .before .before .before .before .before .before .before .before .before .before .before .before .before .put) .ensures, (c .before .before .before .before .before .before .before .before .before .before .before .before .before .before .before .before .before .fresh) .ensures, (c .before .before .before .before .before .before .before .before .before .before .before .before .before .before .before .before .fresh2) .ensures)
+returns-3 c = rw (multiply-performs, sym ((c .before .before .before .before .before .before .before .before .before .before .before .before .before .before .before .before .before .before .before .before .before .draw-pairs) .ensures) ∙ (c .before .before .before .before .before .before .before .before .before .before .before .before .before .before .before .before .before .before .before .r) .given .1, sym ((c .before .before .before .before .before .before .before .before .before .before .before .before .before .before .have-room) .ensures) ∙ not-false _ ((c .before .before .before .before .before .before .before .before .before .before .before .before .before .if1) .left), (c .product) .ensures, (c .before .before .before .before .before .before .before .pass-four) .ensures, (c .before .before .before .before .before .before .before .before .before .before .before .before .fresh) .ensures, (c .before .before .before .before .before .before .before .before .before .before .before .fresh2) .ensures)
 
 pub multiply-spec : {M : Type 1} → statement M
 multiply-spec =
@@ -100,12 +85,7 @@ multiply-spec =
     returns-2
     fresh-requires
     fresh-requires-2
-    slice-aggregate-put
-    put-requires
-    slice-aggregate-put-2
-    put-requires-2
-    slice-aggregate-put-3
-    put-requires-3
+    pass-four-requires
     product-requires
     same-length-4
     same-length-5

@@ -48,29 +48,20 @@ returns-2 c = rw (opening-performs, sym ((c .before .before .before .before .bef
 fresh-requires : tie.Need-fresh-requires
 fresh-requires c κs = search needs
 
+slice-write-list1 : tie.Need-slice-write-list1
+slice-write-list1 c = has-room 1 1 1 (length ((c .before .before .before .before .before .before .before .before .before .before .before .before .before .before .before .before .before .args) .list1 .now)) (length ((c .before .before .before .before .before .before .before .before .before .before .before .before .before .before .before .before .before .args) .list2 .now)) (length ((c .before .before .before .before .before .before .before .before .before .before .before .before .before .before .before .before .before .args) .list3 .now)) (both (leb 3 (length ((c .before .before .before .before .before .before .before .before .before .before .before .before .before .before .before .before .before .args) .controller .now))) _ (rw ((c .before .before .have-room) .ensures) at (not-false (leb 3 (length ((c .before .before .before .before .before .before .before .before .before .before .before .before .before .before .before .before .before .args) .controller .now)) && (c .before .before .have-room) .result) ((c .before .if1) .left))) .1) .0
+
+slice-write-list2 : tie.Need-slice-write-list2
+slice-write-list2 c = has-room 1 1 1 (length ((c .before .before .before .before .before .before .before .before .before .before .before .before .before .before .before .before .before .args) .list1 .now)) (length ((c .before .before .before .before .before .before .before .before .before .before .before .before .before .before .before .before .before .args) .list2 .now)) (length ((c .before .before .before .before .before .before .before .before .before .before .before .before .before .before .before .before .before .args) .list3 .now)) (both (leb 3 (length ((c .before .before .before .before .before .before .before .before .before .before .before .before .before .before .before .before .before .args) .controller .now))) _ (rw ((c .before .before .have-room) .ensures) at (not-false (leb 3 (length ((c .before .before .before .before .before .before .before .before .before .before .before .before .before .before .before .before .before .args) .controller .now)) && (c .before .before .have-room) .result) ((c .before .if1) .left))) .1) .1
+
+slice-write-list3 : tie.Need-slice-write-list3
+slice-write-list3 c = has-room 1 1 1 (length ((c .before .before .before .before .before .before .before .before .before .before .before .before .before .before .before .before .before .args) .list1 .now)) (length ((c .before .before .before .before .before .before .before .before .before .before .before .before .before .before .before .before .before .args) .list2 .now)) (length ((c .before .before .before .before .before .before .before .before .before .before .before .before .before .before .before .before .before .args) .list3 .now)) (both (leb 3 (length ((c .before .before .before .before .before .before .before .before .before .before .before .before .before .before .before .before .before .args) .controller .now))) _ (rw ((c .before .before .have-room) .ensures) at (not-false (leb 3 (length ((c .before .before .before .before .before .before .before .before .before .before .before .before .before .before .before .before .before .args) .controller .now)) && (c .before .before .have-room) .result) ((c .before .if1) .left))) .1) .2
+
 slice-aggregate-put : tie.Need-slice-aggregate-put
 slice-aggregate-put c = search needs
 
 put-requires : tie.Need-put-requires
-put-requires c κs = has-room 1 1 1 (length ((c .before .before .before .before .before .before .before .before .before .before .before .before .before .before .before .before .before .before .before .args) .list1 .now)) (length ((c .before .before .before .before .before .before .before .before .before .before .before .before .before .before .before .before .before .before .before .args) .list2 .now)) (length ((c .before .before .before .before .before .before .before .before .before .before .before .before .before .before .before .before .before .before .before .args) .list3 .now)) (both (leb 3 (length ((c .before .before .before .before .before .before .before .before .before .before .before .before .before .before .before .before .before .before .before .args) .controller .now))) _ (rw ((c .before .before .before .before .have-room) .ensures) at (not-false (leb 3 (length ((c .before .before .before .before .before .before .before .before .before .before .before .before .before .before .before .before .before .before .before .args) .controller .now)) && (c .before .before .before .before .have-room) .result) ((c .before .before .before .if1) .left))) .1) .0
-
-slice-aggregate-put-2 : tie.Need-slice-aggregate-put-2
-slice-aggregate-put-2 c = search needs
-
-put-requires-2 : tie.Need-put-requires-2
-put-requires-2 c κs = has-room 1 1 1 (length ((c .before .before .before .before .before .before .before .before .before .before .before .before .before .before .before .before .before .before .before .before .before .before .before .before .args) .list1 .now)) (length ((c .before .before .before .before .before .before .before .before .before .before .before .before .before .before .before .before .before .before .before .before .before .before .before .before .args) .list2 .now)) (length ((c .before .before .before .before .before .before .before .before .before .before .before .before .before .before .before .before .before .before .before .before .before .before .before .before .args) .list3 .now)) (both (leb 3 (length ((c .before .before .before .before .before .before .before .before .before .before .before .before .before .before .before .before .before .before .before .before .before .before .before .before .args) .controller .now))) _ (rw ((c .before .before .before .before .before .before .before .before .before .have-room) .ensures) at (not-false (leb 3 (length ((c .before .before .before .before .before .before .before .before .before .before .before .before .before .before .before .before .before .before .before .before .before .before .before .before .args) .controller .now)) && (c .before .before .before .before .before .before .before .before .before .have-room) .result) ((c .before .before .before .before .before .before .before .before .if1) .left))) .1) .1
-
-slice-aggregate-put-3 : tie.Need-slice-aggregate-put-3
-slice-aggregate-put-3 c = search needs
-
-put-requires-3 : tie.Need-put-requires-3
-put-requires-3 c κs = has-room 1 1 1 (length ((c .before .before .before .before .before .before .before .before .before .before .before .before .before .before .before .before .before .before .before .before .before .before .before .before .before .before .before .before .before .args) .list1 .now)) (length ((c .before .before .before .before .before .before .before .before .before .before .before .before .before .before .before .before .before .before .before .before .before .before .before .before .before .before .before .before .before .args) .list2 .now)) (length ((c .before .before .before .before .before .before .before .before .before .before .before .before .before .before .before .before .before .before .before .before .before .before .before .before .before .before .before .before .before .args) .list3 .now)) (both (leb 3 (length ((c .before .before .before .before .before .before .before .before .before .before .before .before .before .before .before .before .before .before .before .before .before .before .before .before .before .before .before .before .before .args) .controller .now))) _ (rw ((c .before .before .before .before .before .before .before .before .before .before .before .before .before .before .have-room) .ensures) at (not-false (leb 3 (length ((c .before .before .before .before .before .before .before .before .before .before .before .before .before .before .before .before .before .before .before .before .before .before .before .before .before .before .before .before .before .args) .controller .now)) && (c .before .before .before .before .before .before .before .before .before .before .before .before .before .before .have-room) .result) ((c .before .before .before .before .before .before .before .before .before .before .before .before .before .if1) .left))) .1) .2
-
-slice-aggregate-put-4 : tie.Need-slice-aggregate-put-4
-slice-aggregate-put-4 c = search needs
-
-put-requires-4 : tie.Need-put-requires-4
-put-requires-4 c κs = leb-true 3 _ (both (leb 3 (length ((c .before .before .before .before .before .before .before .before .before .before .before .before .before .before .before .before .before .before .before .before .before .before .before .before .before .before .before .before .before .before .before .before .before .before .args) .controller .now))) _ (not-false (leb 3 (length ((c .before .before .before .before .before .before .before .before .before .before .before .before .before .before .before .before .before .before .before .before .before .before .before .before .before .before .before .before .before .before .before .before .before .before .args) .controller .now)) && (c .before .before .before .before .before .before .before .before .before .before .before .before .before .before .before .before .before .before .before .have-room) .result) ((c .before .before .before .before .before .before .before .before .before .before .before .before .before .before .before .before .before .before .if1) .left)) .0)
+put-requires c κs = leb-true 3 _ (both (leb 3 (length ((c .before .before .before .before .before .before .before .before .before .before .before .before .before .before .before .before .before .before .before .args) .controller .now))) _ (not-false (leb 3 (length ((c .before .before .before .before .before .before .before .before .before .before .before .before .before .before .before .before .before .before .before .args) .controller .now)) && (c .before .before .before .before .have-room) .result) ((c .before .before .before .if1) .left)) .0)
 
 same-length-4 : tie.Need-same-length-4
 same-length-4 c = search needs
@@ -86,7 +77,7 @@ same-length-7 c = search needs
 
 returns-3 : tie.Need-returns-3
 unfolding opening
-returns-3 c = rw (opening-performs, sym ((c .before .before .before .before .before .before .before .before .before .before .before .before .before .before .before .before .before .before .before .before .before .before .before .before .before .before .before .before .before .draw-each) .ensures) ∙ (c .before .before .before .before .before .before .before .before .before .before .before .before .before .before .before .before .before .before .before .before .before .before .before .before .before .before .before .r) .given .1, rw ((c .before .before .before .before .before .before .before .before .before .before .before .before .before .before .before .before .before .before .before .before .before .before .have-room) .ensures) at (not-false (leb 3 (length ((c .before .before .before .before .before .before .before .before .before .before .before .before .before .before .before .before .before .before .before .before .before .before .before .before .before .before .before .before .before .before .before .before .before .before .before .before .before .args) .controller .now)) && (c .before .before .before .before .before .before .before .before .before .before .before .before .before .before .before .before .before .before .before .before .before .before .have-room) .result) ((c .before .before .before .before .before .before .before .before .before .before .before .before .before .before .before .before .before .before .before .before .before .if1) .left)), (c .before .before .put4) .ensures, (c .before .before .before .before .before .before .before .put3) .ensures, (c .before .before .before .before .before .before .before .before .before .before .before .before .put2) .ensures, (c .before .before .before .before .before .before .before .before .before .before .before .before .before .before .before .before .before .put) .ensures, (c .before .before .before .before .before .before .before .before .before .before .before .before .before .before .before .before .before .before .before .before .fresh) .ensures)
+returns-3 c = rw (opening-performs, sym ((c .before .before .before .before .before .before .before .before .before .before .before .before .before .before .draw-each) .ensures) ∙ (c .before .before .before .before .before .before .before .before .before .before .before .before .r) .given .1, rw ((c .before .before .before .before .before .before .before .have-room) .ensures) at (not-false (leb 3 (length ((c .before .before .before .before .before .before .before .before .before .before .before .before .before .before .before .before .before .before .before .before .before .before .args) .controller .now)) && (c .before .before .before .before .before .before .before .have-room) .result) ((c .before .before .before .before .before .before .if1) .left)), (c .before .before .put) .ensures, (c .before .before .before .before .before .fresh) .ensures)
 
 pub open-spec : {M : Type 1} → statement M
 open-spec =
@@ -104,14 +95,11 @@ open-spec =
     same-length-3
     returns-2
     fresh-requires
+    slice-write-list1
+    slice-write-list2
+    slice-write-list3
     slice-aggregate-put
     put-requires
-    slice-aggregate-put-2
-    put-requires-2
-    slice-aggregate-put-3
-    put-requires-3
-    slice-aggregate-put-4
-    put-requires-4
     same-length-4
     same-length-5
     same-length-6

@@ -43,23 +43,14 @@ returns-2 : tie.Need-returns-2
 unfolding reshare
 returns-2 c = rw (reshare-performs, sym ((c .before .before .before .before .before .before .before .before .before .draw-each) .ensures) ∙ (c .before .before .before .before .before .before .before .r) .given .1, sym ((c .before .before .have-room) .ensures) ∙ not-true _ ((c .before .if1) .taken), (c .refused2) .ensures)
 
-slice-aggregate-put : tie.Need-slice-aggregate-put
-slice-aggregate-put c = search needs
+slice-write-list1 : tie.Need-slice-write-list1
+slice-write-list1 c = has-room 1 1 1 (length ((c .before .before .before .before .before .before .before .before .before .before .before .before .before .before .before .args) .list1 .now)) (length ((c .before .before .before .before .before .before .before .before .before .before .before .before .before .before .before .args) .list2 .now)) (length ((c .before .before .before .before .before .before .before .before .before .before .before .before .before .before .before .args) .list3 .now)) (sym ((c .before .have-room) .ensures) ∙ not-false _ ((c .if1) .left)) .0
 
-put-requires : tie.Need-put-requires
-put-requires c κs = has-room 1 1 1 (length ((c .before .before .before .before .before .before .before .before .before .before .before .before .before .before .before .before .before .args) .list1 .now)) (length ((c .before .before .before .before .before .before .before .before .before .before .before .before .before .before .before .before .before .args) .list2 .now)) (length ((c .before .before .before .before .before .before .before .before .before .before .before .before .before .before .before .before .before .args) .list3 .now)) (sym ((c .before .before .before .have-room) .ensures) ∙ not-false _ ((c .before .before .if1) .left)) .0
+slice-write-list2 : tie.Need-slice-write-list2
+slice-write-list2 c = has-room 1 1 1 (length ((c .before .before .before .before .before .before .before .before .before .before .before .before .before .before .before .args) .list1 .now)) (length ((c .before .before .before .before .before .before .before .before .before .before .before .before .before .before .before .args) .list2 .now)) (length ((c .before .before .before .before .before .before .before .before .before .before .before .before .before .before .before .args) .list3 .now)) (sym ((c .before .have-room) .ensures) ∙ not-false _ ((c .if1) .left)) .1
 
-slice-aggregate-put-2 : tie.Need-slice-aggregate-put-2
-slice-aggregate-put-2 c = search needs
-
-put-requires-2 : tie.Need-put-requires-2
-put-requires-2 c κs = has-room 1 1 1 (length ((c .before .before .before .before .before .before .before .before .before .before .before .before .before .before .before .before .before .before .before .before .before .before .args) .list1 .now)) (length ((c .before .before .before .before .before .before .before .before .before .before .before .before .before .before .before .before .before .before .before .before .before .before .args) .list2 .now)) (length ((c .before .before .before .before .before .before .before .before .before .before .before .before .before .before .before .before .before .before .before .before .before .before .args) .list3 .now)) (sym ((c .before .before .before .before .before .before .before .before .have-room) .ensures) ∙ not-false _ ((c .before .before .before .before .before .before .before .if1) .left)) .1
-
-slice-aggregate-put-3 : tie.Need-slice-aggregate-put-3
-slice-aggregate-put-3 c = search needs
-
-put-requires-3 : tie.Need-put-requires-3
-put-requires-3 c κs = has-room 1 1 1 (length ((c .before .before .before .before .before .before .before .before .before .before .before .before .before .before .before .before .before .before .before .before .before .before .before .before .before .before .before .args) .list1 .now)) (length ((c .before .before .before .before .before .before .before .before .before .before .before .before .before .before .before .before .before .before .before .before .before .before .before .before .before .before .before .args) .list2 .now)) (length ((c .before .before .before .before .before .before .before .before .before .before .before .before .before .before .before .before .before .before .before .before .before .before .before .before .before .before .before .args) .list3 .now)) (sym ((c .before .before .before .before .before .before .before .before .before .before .before .before .before .have-room) .ensures) ∙ not-false _ ((c .before .before .before .before .before .before .before .before .before .before .before .before .if1) .left)) .2
+slice-write-list3 : tie.Need-slice-write-list3
+slice-write-list3 c = has-room 1 1 1 (length ((c .before .before .before .before .before .before .before .before .before .before .before .before .before .before .before .args) .list1 .now)) (length ((c .before .before .before .before .before .before .before .before .before .before .before .before .before .before .before .args) .list2 .now)) (length ((c .before .before .before .before .before .before .before .before .before .before .before .before .before .before .before .args) .list3 .now)) (sym ((c .before .have-room) .ensures) ∙ not-false _ ((c .if1) .left)) .2
 
 fresh-requires : tie.Need-fresh-requires
 fresh-requires c κs = search needs
@@ -75,7 +66,7 @@ same-length-6 c = search needs
 
 returns-3 : tie.Need-returns-3
 unfolding reshare
-returns-3 c = rw (reshare-performs, sym ((c .before .before .before .before .before .before .before .before .before .before .before .before .before .before .before .before .before .before .before .before .before .before .before .before .draw-each) .ensures) ∙ (c .before .before .before .before .before .before .before .before .before .before .before .before .before .before .before .before .before .before .before .before .before .before .r) .given .1, sym ((c .before .before .before .before .before .before .before .before .before .before .before .before .before .before .before .before .before .have-room) .ensures) ∙ not-false _ ((c .before .before .before .before .before .before .before .before .before .before .before .before .before .before .before .before .if1) .left), (c .fresh) .ensures, (c .before .before .before .put3) .ensures, (c .before .before .before .before .before .before .before .before .put2) .ensures, (c .before .before .before .before .before .before .before .before .before .before .before .before .before .put) .ensures)
+returns-3 c = rw (reshare-performs, sym ((c .before .before .before .before .before .before .before .before .before .draw-each) .ensures) ∙ (c .before .before .before .before .before .before .before .r) .given .1, sym ((c .before .before .have-room) .ensures) ∙ not-false _ ((c .before .if1) .left), (c .fresh) .ensures)
 
 pub reshare-spec : {M : Type 1} → statement M
 reshare-spec =
@@ -92,12 +83,9 @@ reshare-spec =
     same-length-2
     same-length-3
     returns-2
-    slice-aggregate-put
-    put-requires
-    slice-aggregate-put-2
-    put-requires-2
-    slice-aggregate-put-3
-    put-requires-3
+    slice-write-list1
+    slice-write-list2
+    slice-write-list3
     fresh-requires
     same-length-4
     same-length-5

@@ -49,23 +49,14 @@ sub-requires c κs = search needs
 sub-requires-2 : tie.Need-sub-requires-2
 sub-requires-2 c κs = search needs
 
-slice-aggregate-put : tie.Need-slice-aggregate-put
-slice-aggregate-put c = search needs
+slice-write-list1 : tie.Need-slice-write-list1
+slice-write-list1 c = has-room 1 1 1 (length ((c .before .before .before .before .before .before .before .before .before .before .before .before .before .before .before .args) .list1 .now)) (length ((c .before .before .before .before .before .before .before .before .before .before .before .before .before .before .before .args) .list2 .now)) (length ((c .before .before .before .before .before .before .before .before .before .before .before .before .before .before .before .args) .list3 .now)) (sym ((c .before .before .before .have-room) .ensures) ∙ not-false _ ((c .before .before .if1) .left)) .0
 
-put-requires : tie.Need-put-requires
-put-requires c κs = has-room 1 1 1 (length ((c .before .before .before .before .before .before .before .before .before .before .before .before .before .before .before .before .before .args) .list1 .now)) (length ((c .before .before .before .before .before .before .before .before .before .before .before .before .before .before .before .before .before .args) .list2 .now)) (length ((c .before .before .before .before .before .before .before .before .before .before .before .before .before .before .before .before .before .args) .list3 .now)) (sym ((c .before .before .before .before .before .have-room) .ensures) ∙ not-false _ ((c .before .before .before .before .if1) .left)) .0
+slice-write-list2 : tie.Need-slice-write-list2
+slice-write-list2 c = has-room 1 1 1 (length ((c .before .before .before .before .before .before .before .before .before .before .before .before .before .before .before .args) .list1 .now)) (length ((c .before .before .before .before .before .before .before .before .before .before .before .before .before .before .before .args) .list2 .now)) (length ((c .before .before .before .before .before .before .before .before .before .before .before .before .before .before .before .args) .list3 .now)) (sym ((c .before .before .before .have-room) .ensures) ∙ not-false _ ((c .before .before .if1) .left)) .1
 
-slice-aggregate-put-2 : tie.Need-slice-aggregate-put-2
-slice-aggregate-put-2 c = search needs
-
-put-requires-2 : tie.Need-put-requires-2
-put-requires-2 c κs = has-room 1 1 1 (length ((c .before .before .before .before .before .before .before .before .before .before .before .before .before .before .before .before .before .before .before .before .before .before .args) .list1 .now)) (length ((c .before .before .before .before .before .before .before .before .before .before .before .before .before .before .before .before .before .before .before .before .before .before .args) .list2 .now)) (length ((c .before .before .before .before .before .before .before .before .before .before .before .before .before .before .before .before .before .before .before .before .before .before .args) .list3 .now)) (sym ((c .before .before .before .before .before .before .before .before .before .before .have-room) .ensures) ∙ not-false _ ((c .before .before .before .before .before .before .before .before .before .if1) .left)) .1
-
-slice-aggregate-put-3 : tie.Need-slice-aggregate-put-3
-slice-aggregate-put-3 c = search needs
-
-put-requires-3 : tie.Need-put-requires-3
-put-requires-3 c κs = has-room 1 1 1 (length ((c .before .before .before .before .before .before .before .before .before .before .before .before .before .before .before .before .before .before .before .before .before .before .before .before .before .before .before .args) .list1 .now)) (length ((c .before .before .before .before .before .before .before .before .before .before .before .before .before .before .before .before .before .before .before .before .before .before .before .before .before .before .before .args) .list2 .now)) (length ((c .before .before .before .before .before .before .before .before .before .before .before .before .before .before .before .before .before .before .before .before .before .before .before .before .before .before .before .args) .list3 .now)) (sym ((c .before .before .before .before .before .before .before .before .before .before .before .before .before .before .before .have-room) .ensures) ∙ not-false _ ((c .before .before .before .before .before .before .before .before .before .before .before .before .before .before .if1) .left)) .2
+slice-write-list3 : tie.Need-slice-write-list3
+slice-write-list3 c = has-room 1 1 1 (length ((c .before .before .before .before .before .before .before .before .before .before .before .before .before .before .before .args) .list1 .now)) (length ((c .before .before .before .before .before .before .before .before .before .before .before .before .before .before .before .args) .list2 .now)) (length ((c .before .before .before .before .before .before .before .before .before .before .before .before .before .before .before .args) .list3 .now)) (sym ((c .before .before .before .have-room) .ensures) ∙ not-false _ ((c .before .before .if1) .left)) .2
 
 same-length-4 : tie.Need-same-length-4
 same-length-4 c = search needs
@@ -78,7 +69,7 @@ same-length-6 c = search needs
 
 returns-3 : tie.Need-returns-3
 unfolding store
-returns-3 c = rw (store-performs, sym ((c .before .before .before .before .before .before .before .before .before .before .before .before .before .before .before .before .before .before .before .before .before .before .before .before .before .draw-double) .ensures) ∙ (c .before .before .before .before .before .before .before .before .before .before .before .before .before .before .before .before .before .before .before .before .before .before .before .s1) .given .1, sym ((c .before .before .before .before .before .before .before .before .before .before .before .before .before .before .before .before .before .before .have-room) .ensures) ∙ not-false _ ((c .before .before .before .before .before .before .before .before .before .before .before .before .before .before .before .before .before .if1) .left), (c .before .before .put3) .ensures, (c .before .before .before .before .before .before .before .put2) .ensures, (c .before .before .before .before .before .before .before .before .before .before .before .before .put) .ensures, (c .before .before .before .before .before .before .before .before .before .before .before .before .before .before .before .sub2) .ensures, (c .before .before .before .before .before .before .before .before .before .before .before .before .before .before .before .before .sub) .ensures)
+returns-3 c = rw (store-performs, sym ((c .before .before .before .before .before .before .before .before .before .before .draw-double) .ensures) ∙ (c .before .before .before .before .before .before .before .before .s1) .given .1, sym ((c .before .before .before .have-room) .ensures) ∙ not-false _ ((c .before .before .if1) .left), (c .sub2) .ensures, (c .before .sub) .ensures)
 
 pub store-spec : {M : Type 1} → statement M
 store-spec =
@@ -97,12 +88,9 @@ store-spec =
     returns-2
     sub-requires
     sub-requires-2
-    slice-aggregate-put
-    put-requires
-    slice-aggregate-put-2
-    put-requires-2
-    slice-aggregate-put-3
-    put-requires-3
+    slice-write-list1
+    slice-write-list2
+    slice-write-list3
     same-length-4
     same-length-5
     same-length-6

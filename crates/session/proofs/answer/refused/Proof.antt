@@ -4,9 +4,6 @@ use Rattle.session.specs.Session.{answer}
 use borrow.Author.Needs.{needs}
 use Rattle.session.proofs.answer.refused.Statement.{statement}
 use Rattle.session.proofs.answer.refused.Tie as tie
-use Rattle.session.proofs.answer.refused.Reads as reads
-use Rattle.session.proofs.answer.refused.Lts as lts
-use Rattle.session.proofs.answer.empty_place.Reads as empty-place-reads
 
 -- src/answer.rt:45:16
 empty-place-requires : tie.Need-empty-place-requires

@@ -7,9 +7,6 @@ use Rattle.session.specs.Contents.{chained}
 use Rattle.session.proofs.Laws.Contents.{chain-turn, chain-broken, chain-end}
 use Rattle.session.proofs.contents.is_chained.Statement.{statement}
 use Rattle.session.proofs.contents.is_chained.Tie as tie
-use Rattle.session.proofs.contents.is_chained.Reads as reads
-use Rattle.session.proofs.contents.is_chained.Lts as lts
-use Rattle.session.proofs.words.word_at.Reads as word-at-reads
 
 abbrev Inv-loop : tie.InvT-loop
 Inv-loop file at₀ k₀ at k = (k ≤ 6) × (chained at (drop (2 * k) (take 12 (wordsOf file))) (length file / 4) ≡ chained 12 (take 12 (wordsOf file)) (length file / 4))

@@ -7,9 +7,6 @@ use Rattle.session.specs.Contents.{limits, within}
 use Rattle.session.proofs.Laws.Contents.{limit-turn, limit-broken, limit-end}
 use Rattle.session.proofs.contents.is_within.Statement.{statement}
 use Rattle.session.proofs.contents.is_within.Tie as tie
-use Rattle.session.proofs.contents.is_within.Reads as reads
-use Rattle.session.proofs.contents.is_within.Lts as lts
-use Rattle.session.proofs.words.word_at.Reads as word-at-reads
 
 abbrev Inv-loop : tie.InvT-loop
 Inv-loop file k₀ k = (k ≤ 6) × (within (drop k limits) (drop (2 * k) (take 12 (wordsOf file))) ≡ within limits (take 12 (wordsOf file)))

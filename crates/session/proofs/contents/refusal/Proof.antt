@@ -6,11 +6,6 @@ use Rattle.session.proofs.Laws.Contents.{whole, no-header, no-words, no
 use borrow.Author.Needs.{needs}
 use Rattle.session.proofs.contents.refusal.Statement.{statement}
 use Rattle.session.proofs.contents.refusal.Tie as tie
-use Rattle.session.proofs.contents.refusal.Reads as reads
-use Rattle.session.proofs.contents.refusal.Lts as lts
-use Rattle.session.proofs.contents.is_chained.Reads as is-chained-reads
-use Rattle.session.proofs.contents.is_within.Reads as is-within-reads
-use Rattle.session.proofs.words.word_at.Reads as word-at-reads
 
 -- src/contents.rt:53:9
 returns : tie.Need-returns

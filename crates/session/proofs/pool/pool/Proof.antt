@@ -11,11 +11,6 @@ use Rattle.session.proofs.Laws.Report.{long-put, run-put, left-readable
 use borrow.Author.Needs.{needs}
 use Rattle.session.proofs.pool.pool.Statement.{statement}
 use Rattle.session.proofs.pool.pool.Tie as tie
-use Rattle.session.proofs.pool.pool.Reads as reads
-use Rattle.session.proofs.pool.pool.Lts as lts
-use Rattle.session.proofs.pool.report.Reads as report-reads
-use Rattle.session.proofs.session.session.Reads as session-reads
-use Rattle.session.proofs.text.put_refused.Reads as put-refused-reads
 
 -- src/pool.rt:60:9
 put-refused-requires : tie.Need-put-refused-requires

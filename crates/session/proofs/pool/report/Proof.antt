@@ -7,12 +7,6 @@ use Rattle.session.proofs.Laws.Report.{early-put, end-put, stopped-put}
 use borrow.Author.Needs.{needs}
 use Rattle.session.proofs.pool.report.Statement.{statement}
 use Rattle.session.proofs.pool.report.Tie as tie
-use Rattle.session.proofs.pool.report.Reads as reads
-use Rattle.session.proofs.pool.report.Lts as lts
-use Rattle.session.proofs.text.put_end.Reads as put-end-reads
-use Rattle.session.proofs.text.put_opens.Reads as put-opens-reads
-use Rattle.session.proofs.text.put_refused.Reads as put-refused-reads
-use Rattle.session.proofs.text.put_stopped.Reads as put-stopped-reads
 
 -- src/pool.rt:29:9
 put-refused-requires : tie.Need-put-refused-requires

@@ -5,8 +5,6 @@ use Rattle.session.proofs.Laws.Contents.{part}
 use borrow.Author.Needs.{needs}
 use Rattle.session.proofs.run.body.Statement.{statement}
 use Rattle.session.proofs.run.body.Tie as tie
-use Rattle.session.proofs.run.body.Reads as reads
-use Rattle.session.proofs.run.body.Lts as lts
 
 -- src/run.rt:81:23
 mul-start : tie.Need-mul-start

@@ -16,12 +16,6 @@ use Rattle.session.proofs.Laws.Session.{session-refused, words-fit, ses
 use borrow.Author.Needs.{needs}
 use Rattle.session.proofs.session.session.Statement.{statement}
 use Rattle.session.proofs.session.session.Tie as tie
-use Rattle.session.proofs.session.session.Reads as reads
-use Rattle.session.proofs.session.session.Lts as lts
-use Rattle.session.proofs.answer.refused.Reads as refused-reads
-use Rattle.session.proofs.contents.refusal.Reads as refusal-reads
-use Rattle.session.proofs.run.run_words.Reads as run-words-reads
-use Rattle.session.proofs.words.decode.Reads as decode-reads
 
 -- src/session.rt:34:9
 refusal-requires : tie.Need-refusal-requires

@@ -8,9 +8,6 @@ use Rattle.session.specs.Words.{wordsOf}
 use Rattle.session.proofs.Laws.Words.{decode-turn, decode-end}
 use Rattle.session.proofs.words.decode.Statement.{statement}
 use Rattle.session.proofs.words.decode.Tie as tie
-use Rattle.session.proofs.words.decode.Reads as reads
-use Rattle.session.proofs.words.decode.Lts as lts
-use Rattle.session.proofs.words.word_at.Reads as word-at-reads
 
 abbrev Inv-loop : tie.InvT-loop
 Inv-loop file words₀ n i₀ words i = (i ≤ n) × (n ≡ length file / 4) × (length words ≡ length words₀) × (words ≡ paste words₀ 0 (wordsOf file) i)

@@ -3,8 +3,6 @@ use Prim.Native.Nat.{_+_}
 use borrow.Author.Needs.{needs}
 use Rattle.session.proofs.words.word_at.Statement.{statement}
 use Rattle.session.proofs.words.word_at.Tie as tie
-use Rattle.session.proofs.words.word_at.Reads as reads
-use Rattle.session.proofs.words.word_at.Lts as lts
 
 -- src/words.rt:13:13
 shared-slice-read-a : tie.Need-shared-slice-read-a

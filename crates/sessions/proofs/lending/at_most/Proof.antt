@@ -3,8 +3,6 @@ use mathlib.Core.Path.{sym}
 use lib.Seq.{length-take-le}
 use Rattle.sessions.proofs.lending.at_most.Statement.{statement}
 use Rattle.sessions.proofs.lending.at_most.Tie as tie
-use Rattle.sessions.proofs.lending.at_most.Reads as reads
-use Rattle.sessions.proofs.lending.at_most.Lts as lts
 
 -- src/lending.rt:18:1
 returns : tie.Need-returns
