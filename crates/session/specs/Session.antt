@@ -7,7 +7,7 @@ use lib.Dec.{leb, eqb}
 use Rattle.protocols.specs.declared.place.Place.{Place}
 use Rattle.protocols.specs.Place.{Lists}
 use Rattle.machine.specs.Lent.{Tables, Lent, lent, sizes}
-use Rattle.machine.specs.Verdict.{sameLength}
+use Rattle.machine.specs.Verdict.{check, sameLength}
 use Rattle.machine.specs.Run.{Ran, runToRefusal, accepted, refusedWith, empty}
 use Rattle.session.specs.declared.answer.SessionAnswer.{SessionAnswer}
 use Rattle.session.specs.Words.{wordsOf}
@@ -31,10 +31,6 @@ stateOf l = state (l .tables) (l .kinds) (l .received)
 
 -- ---- numbers 1 to 4 (01, 'When a call is turned down')
 
--- a test that gives the number r where it fails, and goes on where it holds
-abbrev pub test : ℕ → Bool → ℕ → ℕ
-test r holds next = cond holds next r
-
 -- 1: 'file under 48 bytes, or length no multiple of 4'
 abbrev pub isWhole : List ℕ → Bool
 isWhole file = leb 48 (length file) && eqb (length file % 4) 0
@@ -53,7 +49,7 @@ isLent b w s = sameLength (sizes (lentWith b s)) && leb 7692 (length w)
 
 -- the lowest of these numbers that applies, or 0; the last test is of what is lent
 unfoldable pub tested : List ℕ → Bool → ℕ
-tested file lent = test 1 (isWhole file) (test 2 (isChained file) (test 3 (isWithin file) (test 4 lent 0)))
+tested file lent = check 1 (isWhole file) (check 2 (isChained file) (check 3 (isWithin file) (check 4 lent 0)))
 
 abbrev pub refusal : List ℕ → List ℕ → State → ℕ
 refusal file w s = tested file (isLent (sheetOf (wordsOf file)) w s)
