@@ -1,4 +1,6 @@
 // Runs the cases that tests/command_cases.py writes, and writes what each command answers and what each case leaves.
+#![tactic(auto)]
+
 mod case;
 mod print;
 mod run;

@@ -6,7 +6,7 @@ use protocols::place::Place;
 
 // 0 or the number of the refusal, the place record, and the opened word.
 #[repr(C)]
-#[derive(Drop)]
+#[derive(Clone, Copy)]
 pub struct Answer {
     pub number: u32,
     pub place: Place,
@@ -27,7 +27,7 @@ impl Answer {
 }
 
 // Commands done, and the answer of the last command that was looked at, 0 with the place of the start where there was none.
-#[derive(Drop)]
+#[derive(Clone, Copy)]
 pub struct Run {
     pub done: usize,
     pub last: Answer,

@@ -3,14 +3,14 @@ ghost use Rattle.std.specs.Prelude.{◌≡◌};
 ghost use Rattle.machine.specs.Table as spec;
 
 // Three words.
-#[derive(Drop)]
+#[derive(Clone, Copy)]
 pub struct Command {
     pub code: u32,
     pub a: u32,
     pub b: u32,
 }
 
-#[derive(Drop)]
+#[derive(Clone, Copy)]
 pub enum Code {
     Store,
     Add,
@@ -27,7 +27,7 @@ pub enum Code {
 }
 
 // The command of a code word, if it has one.
-#[derive(Drop)]
+#[derive(Clone, Copy)]
 pub enum Lookup {
     Found(Code),
     Missing,

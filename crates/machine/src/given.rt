@@ -9,7 +9,7 @@ use protocols::place::Place;
 use protocols::shares::Shares;
 
 // The next input, and the shares of the handles that a and b name.
-#[derive(Drop)]
+#[derive(Clone, Copy)]
 pub struct Given {
     pub input: u32,
     pub u: Shares,

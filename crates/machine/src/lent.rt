@@ -8,7 +8,7 @@ use protocols::place::{Drawn, Received};
 use protocols::shares::Shares;
 
 // The lengths of all lent lists: three share tables, kinds, inputs, tapes, received lists.
-#[derive(Drop)]
+#[derive(Clone, Copy)]
 pub struct Sizes {
     pub one: usize,
     pub two: usize,

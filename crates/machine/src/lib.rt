@@ -1,4 +1,6 @@
 // The command machine: twelve commands on lent share tables, tapes and received lists.
+#![tactic(auto)]
+
 mod accept;
 pub mod answer;
 pub mod code;

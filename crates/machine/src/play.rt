@@ -14,7 +14,7 @@ use protocols::shares::Shares;
 use protocols::{below, bit, bits, equal, local, multiply, open, reshare, store};
 
 // What the miners make alone, each from its own shares; or the command has a joint protocol.
-#[derive(Drop)]
+#[derive(Clone, Copy)]
 pub enum Alone {
     Made(Shares),
     Joint,

@@ -7,7 +7,7 @@ use super::code::Code;
 use protocols::place::{Drawn, Received};
 
 // What a field of a command holds.
-#[derive(Drop)]
+#[derive(Clone, Copy)]
 pub enum Use {
     Unused,
     Handle,
@@ -17,7 +17,7 @@ pub enum Use {
 
 // A command's line of the table: the use of fields a and b, the operands' kind, the new value's kind, new values, inputs, and the words
 // that are received and drawn.
-#[derive(Drop)]
+#[derive(Clone, Copy)]
 pub struct Row {
     pub a: Use,
     pub b: Use,

@@ -1,4 +1,6 @@
 // Reads a session from standard input, runs it and prints its outcome.
+#![tactic(auto)]
+
 mod input;
 
 use input::Input;

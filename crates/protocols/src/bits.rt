@@ -16,7 +16,7 @@ use super::shares::Shares;
 use super::{draws, list, masked, ring};
 
 // What the dealing leaves: shares of p and s, and the words that miners 2 and 3 exchange.
-#[derive(Drop)]
+#[derive(Clone, Copy)]
 pub struct Dealt {
     pub p: Shares,
     pub s: Shares,
@@ -25,7 +25,7 @@ pub struct Dealt {
 }
 
 // What the miners hold before a round: p and s, its masks q and t, and the shares that the result takes up again.
-#[derive(Drop)]
+#[derive(Clone, Copy)]
 pub struct Held {
     pub p: Shares,
     pub s: Shares,

@@ -7,28 +7,28 @@ use super::place::{Draw, Party, Place};
 use super::shares::Shares;
 
 // A word of each miner's tape, with the moved place, or a tape is spent.
-#[derive(Drop)]
+#[derive(Clone, Copy)]
 pub enum Each {
     Words(Shares, Place),
     Spent,
 }
 
 // Two words of each miner's tape: the first ones, the second ones.
-#[derive(Drop)]
+#[derive(Clone, Copy)]
 pub enum Pairs {
     Words(Shares, Shares, Place),
     Spent,
 }
 
 // Three words of miner 1's tape.
-#[derive(Drop)]
+#[derive(Clone, Copy)]
 pub enum Triple {
     Words(u32, u32, u32, Place),
     Spent,
 }
 
 // Two words of the provider's tape.
-#[derive(Drop)]
+#[derive(Clone, Copy)]
 pub enum Double {
     Words(u32, u32, Place),
     Spent,

@@ -17,7 +17,7 @@ use super::shares::Shares;
 use super::{bit, draws, list, local, masked, ring};
 
 // What the miners hold before a round: p, and its masks q.
-#[derive(Drop)]
+#[derive(Clone, Copy)]
 pub struct Folding {
     pub p: Shares,
     pub q: Shares,

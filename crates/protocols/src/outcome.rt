@@ -7,7 +7,7 @@ use super::shares::Shares;
 
 // Number 0: done, with the new shares and the moved place. Otherwise a number of document 01's refusals, and nothing is drawn or sent:
 // 12, a tape is spent; 13, a list has too little room.
-#[derive(Drop)]
+#[derive(Clone, Copy)]
 pub struct Outcome {
     pub number: u32,
     pub shares: Shares,

@@ -3,7 +3,7 @@ ghost use Rattle.std.specs.Prelude.{◌≡◌};
 ghost use Rattle.protocols.specs.Place.{count, with_count, draw};
 
 // Who draws: the provider, or a miner.
-#[derive(Drop)]
+#[derive(Clone, Copy)]
 pub enum Party {
     Provider,
     One,
@@ -13,7 +13,7 @@ pub enum Party {
 
 // Words drawn from each tape.
 #[repr(C)]
-#[derive(Drop)]
+#[derive(Clone, Copy)]
 pub struct Drawn {
     pub provider: usize,
     pub one: usize,
@@ -23,7 +23,7 @@ pub struct Drawn {
 
 // Words in each received list.
 #[repr(C)]
-#[derive(Drop)]
+#[derive(Clone, Copy)]
 pub struct Received {
     pub one: usize,
     pub two: usize,
@@ -33,7 +33,7 @@ pub struct Received {
 
 // The place record: filled handles, inputs used, words drawn, words received.
 #[repr(C)]
-#[derive(Drop)]
+#[derive(Clone, Copy)]
 pub struct Place {
     pub handles: usize,
     pub inputs: usize,
@@ -42,7 +42,7 @@ pub struct Place {
 }
 
 // The word at the place with the moved place, or a spent tape.
-#[derive(Drop)]
+#[derive(Clone, Copy)]
 pub enum Draw {
     Word(u32, Place),
     Spent,

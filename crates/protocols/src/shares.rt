@@ -1,5 +1,5 @@
 // Three words, one for each miner.
-#[derive(Drop)]
+#[derive(Clone, Copy)]
 pub struct Shares {
     pub one: u32,
     pub two: u32,

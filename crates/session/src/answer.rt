@@ -7,7 +7,7 @@ use protocols::place::{Drawn, Place, Received};
 
 // Commands done, the place record, and 0 or the refusal number.
 #[repr(C)]
-#[derive(Drop)]
+#[derive(Clone, Copy)]
 pub struct SessionAnswer {
     pub done: usize,
     pub place: Place,

@@ -1,4 +1,6 @@
 // The session layer: a file's contents, the run of its commands, and the text that `pool` prints.
+#![tactic(auto)]
+
 pub mod answer;
 mod contents;
 pub mod pool;

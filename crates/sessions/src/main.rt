@@ -1,4 +1,6 @@
 // Prints, for each session file that an argument names, its name and what `pool` prints of it under four lendings.
+#![tactic(auto)]
+
 mod lending;
 
 use lending::Lending;

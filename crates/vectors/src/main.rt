@@ -1,4 +1,6 @@
 // Runs the cases of tests/protocol_vectors.py on the protocols, and writes what that writes.
+#![tactic(auto)]
+
 mod case;
 mod checksum;
 mod delivery;

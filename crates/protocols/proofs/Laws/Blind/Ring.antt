@@ -178,7 +178,7 @@ module _ {m : ℕ} (pos : 0 < m) where
   opening_blind (watching i) =
       blind_unmasked (λ s s' r b. (
         λ j e. fresh-same j s s' (words b 0) (r.0 j e),
-        elim [ miner j ↦ λ e. elim j [ one ↦ refl | two ↦ refl | three ↦ refl ] | controller ↦ λ e. absurd e ],
+        elim [ miner j ↦ λ e. elim j as (λ (k : Miner). list (miner k) ((opening m).received s b) ≡ list (miner k) ((opening m).received s' b)) [ one ↦ refl | two ↦ refl | three ↦ refl ] | controller ↦ λ e. absurd e ],
       ))
   opening_blind controlling = opening-controlling
   opening_blind (both i) =
