@@ -200,6 +200,6 @@ module _ (n : ℕ) (cs : List Command) (s : Tables) (k : List ℕ) (r : Lists) (
 
 pub entry_3 : (n : ℕ) → Entry3 n (modulus n)
 entry_3 n cs s k r d x y long bx by = record {
-  miner = λ i own. weaken (λ t t' h h' e. e.as_miner i refl) (fixed (owner i) (holds_own (watching i) i refl) own (records_pair n cs s k r d x y long bx by (watching i) (λ q. absurd q)));
+  miner = λ i own. weaken (λ t t' h h' e. e.as_miner i refl) (fixed (watching i) (owner i) (holds_own (watching i) i refl) own (records_pair n cs s k r d x y long bx by (watching i) (λ q. absurd q)));
   controller = λ e. weaken (λ t t' h h' a. a.0.as_controller tt) (records_pair n cs s k r d x y long bx by controlling (λ q. e));
 }

@@ -44,9 +44,9 @@ weaken f P = record {
 }
 
 -- a tape that the observer holds stays as it is: the others pair off alike
-pub fixed : {m : ℕ} {d : Drawn} {o : Observer} {Like : Tapes → Tapes → Type 0} (p : Party) → Holds o p → (own : List ℕ)
+pub fixed : {m : ℕ} {d : Drawn} {Like : Tapes → Tapes → Type 0} (o : Observer) (p : Party) → Holds o p → (own : List ℕ)
     → Pairing (Contents m d) (λ t t'. Like t t' × SameOwn o t t') → Pairing (λ t. Contents m d t × (tape p t ≡ own)) Like
-fixed p q own P = record {
+fixed o p q own P = record {
   to = P.to;
   back = P.back;
   to_ok = λ t h. (P.to_ok t h.0, (P.alike t h.0).1 p q ∙ h.1);
