@@ -38,7 +38,7 @@ class Answer(Structure):
 def load():
     """The library as a shared object, linked from the archive where that is newer."""
     if not ARCHIVE.exists():
-        sys.exit(f"{ARCHIVE} is missing: run `rt staticlib dinglefork` first")
+        sys.exit(f"{ARCHIVE} is missing: run `tools/build dinglefork` first")
     if not SHARED.exists() or SHARED.stat().st_mtime < ARCHIVE.stat().st_mtime:
         whole = ["-Wl,--whole-archive", str(ARCHIVE), "-Wl,--no-whole-archive"]
         subprocess.run(["cc", "-shared", *whole, "-o", str(SHARED)], check=True)
