@@ -15,7 +15,7 @@ use Rattle.protocols.specs.declared.place.Drawn.{Drawn}
 use Rattle.protocols.specs.declared.place.Place.{Place}
 use Rattle.protocols.specs.declared.shares.Shares.{Shares}
 use Rattle.protocols.specs.Word.{width, modulus, add, sub, mul, bit_at}
-use Rattle.protocols.specs.Shares.{Miner, one, two, three, at, each, AreWords as AreWordsOf, sum_of}
+use Rattle.protocols.specs.Shares.{Miner, one, at, each, AreWords as AreWordsOf, sum_of}
 use Rattle.protocols.specs.Place.{Tapes, Lists, Receiver, controller, list, block}
 use Rattle.protocols.specs.Contents.{Below as AllBelow, Contents}
 use Rattle.protocols.specs.Counts.{received, due}

@@ -1,5 +1,5 @@
 -- Shares and words that the steps make are words.
-use Rattle.std.proofs.Common.{ℕ, zero, suc, ◌-◌, ◌^◌, ◌<◌, mod-lt, zero-lt-suc, arith}
+use Rattle.std.proofs.Common.{ℕ, zero, suc, ◌^◌, ◌<◌, mod-lt, zero-lt-suc, arith}
 use lib.Bits.{bit_xor, xor_lt}
 use Rattle.protocols.specs.declared.place.Party.TheVariants.{One, Two, Three}
 use Rattle.protocols.specs.declared.shares.Shares.{Shares}

@@ -19,7 +19,7 @@ use Rattle.protocols.specs.declared.draws.Triple.{Triple}
 use Rattle.protocols.specs.declared.draws.Triple.TheVariants as triple
 use Rattle.protocols.specs.declared.draws.Double.{Double}
 use Rattle.protocols.specs.declared.draws.Double.TheVariants as double
-use Rattle.protocols.specs.Shares.{one, shares}
+use Rattle.protocols.specs.Shares.{shares}
 use Rattle.protocols.proofs.Laws.Blocks.{tapes_ext}
 use Rattle.protocols.specs.Draws.{draw_each, draw_pairs, draw_triple, draw_double}
 use Rattle.protocols.specs.Place.{Tapes, tape, counts, count, plus, cut, rest, advance, draw, every, has, enough, block}

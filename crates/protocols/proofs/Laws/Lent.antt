@@ -27,7 +27,7 @@ use Rattle.protocols.specs.declared.draws.Pairs.TheVariants as pairs
 use Rattle.protocols.specs.declared.draws.Triple.TheVariants as triple
 use Rattle.protocols.specs.Word.{width, modulus}
 use Rattle.protocols.specs.Shares.{one, two, three, Operands}
-use Rattle.protocols.specs.Place.{Tapes, tapes, tape, Lists, lists, Receiver, miner, controller, list, advance, count, words, counts, moved, tape_number, draw_case, draw, enough, block, ◌followed_by◌, to_next, to_two_three}
+use Rattle.protocols.specs.Place.{Tapes, tapes, tape, Lists, lists, Receiver, miner, controller, list, advance, count, counts, moved, tape_number, draw_case, draw, enough, block, ◌followed_by◌, to_next, to_two_three}
 use Rattle.protocols.specs.Draws.{draw_each, draw_pairs, draw_triple, draw_double}
 use Rattle.protocols.specs.Protocol.{Protocol, ◌then◌, locally, Answer, done, spent, perform}
 use Rattle.protocols.specs.Store.{store}

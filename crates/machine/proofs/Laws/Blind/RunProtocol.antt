@@ -15,7 +15,7 @@ use Rattle.machine.specs.declared.code.Command.{Command}
 use Rattle.machine.specs.declared.lent.Sizes.{Sizes}
 use Rattle.machine.specs.Table.{row}
 use Rattle.machine.specs.Lent.{Lent, lent, sizes}
-use Rattle.machine.specs.Verdict.{Verdict, Accepted, Refused, number, verdict}
+use Rattle.machine.specs.Verdict.{Verdict, Accepted, Refused, verdict}
 use Rattle.machine.specs.Steps.{protocol}
 use Rattle.machine.specs.Command.{accepted, decided, command}
 use Rattle.machine.specs.Run.{Ran, run, Reply, reply}

@@ -10,16 +10,16 @@ pub store_value-requires : goal.store_value-requires
 store_value-requires c =
     let a = c.args in
     let l : Lent =
-        lent (tables a.share1.now a.share2.now a.share3.now) a.kinds.now a.inputs.now (tapes a.provider.now a.tape1.now a.tape2.now a.tape3.now)
-        (lists a.received1.now a.received2.now a.received3.now a.controller.now) in
+    lent (tables a.share1.now a.share2.now a.share3.now) a.kinds.now a.inputs.now (tapes a.provider.now a.tape1.now a.tape2.now a.tape3.now)
+    (lists a.received1.now a.received2.now a.received3.now a.controller.now) in
     value_fits a.c a.place l a.code _ c.requires (omega arith) c.make_alone.ensures c.in-Made.is
 
 pub returns-in-Made : goal.returns-in-Made
 returns-in-Made c =
     let a = c.args in
     let l : Lent =
-        lent (tables a.share1.now a.share2.now a.share3.now) a.kinds.now a.inputs.now (tapes a.provider.now a.tape1.now a.tape2.now a.tape3.now)
-        (lists a.received1.now a.received2.now a.received3.now a.controller.now) in
+    lent (tables a.share1.now a.share2.now a.share3.now) a.kinds.now a.inputs.now (tapes a.provider.now a.tape1.now a.tape2.now a.tape3.now)
+    (lists a.received1.now a.received2.now a.received3.now a.controller.now) in
     alone-left a.c a.place l a.code c.of-g.ensures (sym c.make_alone.ensures ∙ c.in-Made.is) c.store_value.ensures
 
 pub offset_bounds-received1-at1 : goal.offset_bounds-received1-at1
@@ -62,8 +62,8 @@ pub finish-requires : goal.finish-requires
 finish-requires c =
     let a = c.args in
     let l : Lent =
-        lent (tables a.share1.now a.share2.now a.share3.now) a.kinds.now a.inputs.now (tapes a.provider.now a.tape1.now a.tape2.now a.tape3.now)
-        (lists a.received1.now a.received2.now a.received3.now a.controller.now) in
+    lent (tables a.share1.now a.share2.now a.share3.now) a.kinds.now a.inputs.now (tapes a.provider.now a.tape1.now a.tape2.now a.tape3.now)
+    (lists a.received1.now a.received2.now a.received3.now a.controller.now) in
     let done = c.play-done in
     let words = lists done.new.list1 done.new.list2 done.new.list3 done.new.controller in
     let told = played_told a.code a.c a.place l c.requires {o = done.result} {b = words} c.of-g.ensures done.ensures in
@@ -74,8 +74,8 @@ pub returns : goal.returns
 returns c =
     let a = c.args in
     let l : Lent =
-        lent (tables a.share1.now a.share2.now a.share3.now) a.kinds.now a.inputs.now (tapes a.provider.now a.tape1.now a.tape2.now a.tape3.now)
-        (lists a.received1.now a.received2.now a.received3.now a.controller.now) in
+    lent (tables a.share1.now a.share2.now a.share3.now) a.kinds.now a.inputs.now (tapes a.provider.now a.tape1.now a.tape2.now a.tape3.now)
+    (lists a.received1.now a.received2.now a.received3.now a.controller.now) in
     let done = c.play-done in
     let words = lists done.new.list1 done.new.list2 done.new.list3 done.new.controller in
     let told = played_told a.code a.c a.place l c.requires {o = done.result} {b = words} c.of-g.ensures done.ensures in

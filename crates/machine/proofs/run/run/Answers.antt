@@ -8,8 +8,8 @@ pub returns-then-not-is_sound : goal.returns-then-not-is_sound
 returns-then-not-is_sound c =
     let a = c.args in
     let first : Lent =
-        held a.share1.now a.share2.now a.share3.now a.kinds.now a.inputs.now a.provider.now a.tape1.now a.tape2.now a.tape3.now a.received1.now
-        a.received2.now a.received3.now a.controller.now in
+    held a.share1.now a.share2.now a.share3.now a.kinds.now a.inputs.now a.provider.now a.tape1.now a.tape2.now a.tape3.now a.received1.now
+    a.received2.now a.received3.now a.controller.now in
     run_unsound a.commands.now a.start first (rw c.of-sizes.ensures at (sym c.is_sound.ensures ∙ c.if-not-is_sound.true)) c.refuse_first.result c.refuse_first.ensures
 
 pub run_soundly-requires : goal.run_soundly-requires

@@ -9,8 +9,8 @@ pub loop-at-init : goal.loop-at-init
 loop-at-init c =
     let a = c.args in
     let first : Lent =
-        held a.share1.now a.share2.now a.share3.now a.kinds.now a.inputs.now a.provider.now a.tape1.now a.tape2.now a.tape3.now a.received1.now
-        a.received2.now a.received3.now a.controller.now in
+    held a.share1.now a.share2.now a.share3.now a.kinds.now a.inputs.now a.provider.now a.tape1.now a.tape2.now a.tape3.now a.received1.now
+    a.received2.now a.received3.now a.controller.now in
     record {
       in_range = omega arith;
       counted = omega arith;
@@ -28,13 +28,13 @@ returns-then-last-ne0 c =
     let a = c.args in
     let l = c.loop-at in
     let now : Lent =
-        held l.share1 l.share2 l.share3 l.kinds a.inputs.now a.provider.now a.tape1.now a.tape2.now a.tape3.now l.received1 l.received2 l.received3
-        l.controller in
+    held l.share1 l.share2 l.share3 l.kinds a.inputs.now a.provider.now a.tape1.now a.tape2.now a.tape3.now l.received1 l.received2 l.received3
+    l.controller in
     let s = c.step-last in
     let after : Outcome =
-        outcome s.result
-        (held s.new.share1 s.new.share2 s.new.share3 s.new.kinds a.inputs.now a.provider.now a.tape1.now a.tape2.now a.tape3.now s.new.received1
-        s.new.received2 s.new.received3 s.new.controller) in
+    outcome s.result
+    (held s.new.share1 s.new.share2 s.new.share3 s.new.kinds a.inputs.now a.provider.now a.tape1.now a.tape2.now a.tape3.now s.new.received1
+    s.new.received2 s.new.received3 s.new.controller) in
     run_stop a.commands.now l.at l.done l.last now c.loop-at-test.true after s.ensures c.if-last-ne0.true ∙ l.invariant.comes_to_the_whole
 
 pub loop-at-preserved : goal.loop-at-preserved
@@ -42,13 +42,13 @@ loop-at-preserved c =
     let a = c.args in
     let l = c.loop-at in
     let now : Lent =
-        held l.share1 l.share2 l.share3 l.kinds a.inputs.now a.provider.now a.tape1.now a.tape2.now a.tape3.now l.received1 l.received2 l.received3
-        l.controller in
+    held l.share1 l.share2 l.share3 l.kinds a.inputs.now a.provider.now a.tape1.now a.tape2.now a.tape3.now l.received1 l.received2 l.received3
+    l.controller in
     let s = c.step-last in
     let after : Outcome =
-        outcome s.result
-        (held s.new.share1 s.new.share2 s.new.share3 s.new.kinds a.inputs.now a.provider.now a.tape1.now a.tape2.now a.tape3.now s.new.received1
-        s.new.received2 s.new.received3 s.new.controller) in
+    outcome s.result
+    (held s.new.share1 s.new.share2 s.new.share3 s.new.kinds a.inputs.now a.provider.now a.tape1.now a.tape2.now a.tape3.now s.new.received1
+    s.new.received2 s.new.received3 s.new.controller) in
     record {
       in_range = omega arith;
       counted = omega arith;
@@ -63,6 +63,6 @@ returns c =
     let a = c.args in
     let l = c.loop-at in
     let now : Lent =
-        held l.share1 l.share2 l.share3 l.kinds a.inputs.now a.provider.now a.tape1.now a.tape2.now a.tape3.now l.received1 l.received2 l.received3
-        l.controller in
+    held l.share1 l.share2 l.share3 l.kinds a.inputs.now a.provider.now a.tape1.now a.tape2.now a.tape3.now l.received1 l.received2 l.received3
+    l.controller in
     run_end a.commands.now l.at l.done l.last now (omega arith) ∙ l.invariant.comes_to_the_whole

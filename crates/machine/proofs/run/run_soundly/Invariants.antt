@@ -9,10 +9,10 @@ use Rattle.machine.proofs.run.run_soundly.Given as goal
 abbrev pub invariant-loop-at : goal.invariant-loop-at
 invariant-loop-at l =
     let now : Lent =
-        held l.share1 l.share2 l.share3 l.kinds l.inputs l.provider l.tape1 l.tape2 l.tape3 l.received1 l.received2 l.received3 l.controller in
+    held l.share1 l.share2 l.share3 l.kinds l.inputs l.provider l.tape1 l.tape2 l.tape3 l.received1 l.received2 l.received3 l.controller in
     let f = l.fn in
     let first : Lent =
-        held f.share1 f.share2 f.share3 f.kinds f.inputs f.provider f.tape1 f.tape2 f.tape3 f.received1 f.received2 f.received3 f.controller in
+    held f.share1 f.share2 f.share3 f.kinds f.inputs f.provider f.tape1 f.tape2 f.tape3 f.received1 f.received2 f.received3 f.controller in
     record {
       in_range : l.at ≤ length l.commands;
       counted : l.done ≤ l.at;
