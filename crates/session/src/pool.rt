@@ -50,8 +50,8 @@ pub fn pool(
     controller: &mut [u32],
     out: &mut [u8; TEXT],
 ) -> usize
-    ensures controller_after { rendered result out.new words.new (state (tables share1.new share2.new share3.new) kinds.new (lists received1.new received2.new received3.new controller.new)) ≡ into out.old (spec.pool file.now words.old (state (tables share1.old share2.old share3.old) kinds.old (lists received1.old received2.old received3.old controller.old))) }
-    ensures upper_bound { (result ≤ length out.new) × (result ≡ length (take result out.new)) }
+    ensures printed { rendered result out.new words.new (state (tables share1.new share2.new share3.new) kinds.new (lists received1.new received2.new received3.new controller.new)) ≡ into out.old (spec.pool file.now words.old (state (tables share1.old share2.old share3.old) kinds.old (lists received1.old received2.old received3.old controller.old))) }
+    ensures within { (result ≤ length out.new) × (result ≡ length (take result out.new)) }
 {
     if BYTES < file.len() {
         return text::put_refused(out, 0, 3);

@@ -17,7 +17,7 @@ use Rattle.machine.proofs.Claims.{claims}
 use Rattle.protocols.proofs.Laws.Deliveries.{both}
 use Rattle.session.specs.declared.answer.SessionAnswer.{SessionAnswer}
 use Rattle.session.specs.Words.{words_of}
-use Rattle.session.specs.Contents.{start_of, count_of, body, chained, limits, within, Sheet, sheet_of}
+use Rattle.session.specs.Contents.{start_of, count_of, body, chained, within, Sheet, sheet_of}
 use Rattle.session.specs.Session.{State, lent_with, is_lent, refusal, refused, run_of, Outcome, outcome, finished, performed, with_words, session}
 use Rattle.session.specs.Text.{open_lines, end_line, stopped_line, last_line, is_early, refused_line, text_of, lines_with, text_from, Readable, printed, pool, rendered, into}
 use Rattle.session.proofs.Laws.Contents.{Accepted, bodies, long, twelve, at_most_4}
