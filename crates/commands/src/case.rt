@@ -1,9 +1,12 @@
 // A case: its lists are read, its commands run, and what they leave is printed.
 use crate::run::Ends;
 use crate::{print, run, scan};
+use std::io;
+use std::io::Write;
 
 // The share tables and the kinds, whole, unfilled parts too: so a word written where none is due shows.
 fn tables(
+    out: &mut impl Write,
     text: &[u8],
     at: &mut usize,
     ends: Ends,
@@ -12,7 +15,7 @@ fn tables(
     received2: &mut [u32],
     received3: &mut [u32],
     controller: &mut [u32],
-) {
+) -> io::Result<()> {
     let mut share1 = [0u32; 1024];
     let mut share2 = [0u32; 1024];
     let mut share3 = [0u32; 1024];
@@ -22,6 +25,7 @@ fn tables(
     let n3 = scan::list(text, at, &mut share3, 0);
     let n = scan::list(text, at, &mut kinds, 0);
     run::run(
+        out,
         text,
         at,
         ends,
@@ -34,15 +38,21 @@ fn tables(
         received2,
         received3,
         controller,
-    );
-    print::list(b"share1", &share1, n1);
-    print::list(b"share2", &share2, n2);
-    print::list(b"share3", &share3, n3);
-    print::list(b"kinds", &kinds, n);
+    )?;
+    print::list(out, b"share1", &share1, n1)?;
+    print::list(out, b"share2", &share2, n2)?;
+    print::list(out, b"share3", &share3, n3)?;
+    print::list(out, b"kinds", &kinds, n)
 }
 
 // The received lists, whole likewise.
-fn lists(text: &[u8], at: &mut usize, ends: Ends, read: &[u32; 1024]) {
+fn lists(
+    out: &mut impl Write,
+    text: &[u8],
+    at: &mut usize,
+    ends: Ends,
+    read: &[u32; 1024],
+) -> io::Result<()> {
     let mut received1 = [0u32; 1024];
     let mut received2 = [0u32; 1024];
     let mut received3 = [0u32; 1024];
@@ -52,6 +62,7 @@ fn lists(text: &[u8], at: &mut usize, ends: Ends, read: &[u32; 1024]) {
     let n3 = scan::list(text, at, &mut received3, 0);
     let n = scan::list(text, at, &mut controller, 0);
     tables(
+        out,
         text,
         at,
         ends,
@@ -60,18 +71,18 @@ fn lists(text: &[u8], at: &mut usize, ends: Ends, read: &[u32; 1024]) {
         &mut received2[..n2],
         &mut received3[..n3],
         &mut controller[..n],
-    );
-    print::list(b"received1", &received1, n1);
-    print::list(b"received2", &received2, n2);
-    print::list(b"received3", &received3, n3);
-    print::list(b"controller", &controller, n);
+    )?;
+    print::list(out, b"received1", &received1, n1)?;
+    print::list(out, b"received2", &received2, n2)?;
+    print::list(out, b"received3", &received3, n3)?;
+    print::list(out, b"controller", &controller, n)
 }
 
 // A case begins with the line that names it. What is only read, inputs and tapes, stands in one list and is handed on as
 // parts of it.
-pub(crate) fn printed(text: &[u8], at: &mut usize) {
-    print::text(scan::line(text, at));
-    print::text(b"\n");
+pub(crate) fn printed(out: &mut impl Write, text: &[u8], at: &mut usize) -> io::Result<()> {
+    print::text(out, scan::line(text, at))?;
+    print::text(out, b"\n")?;
     let mut read = [0u32; 1024];
     let inputs = scan::list(text, at, &mut read, 0);
     let provider = scan::list(text, at, &mut read, inputs);
@@ -85,5 +96,5 @@ pub(crate) fn printed(text: &[u8], at: &mut usize) {
         two,
         three,
     };
-    lists(text, at, ends, &read);
+    lists(out, text, at, ends, &read)
 }

@@ -6,20 +6,38 @@ mod print;
 mod run;
 mod scan;
 
-use libc::STDIN_FILENO;
+ghost use Rattle.std.specs.Io.{ReadsAtMost};
 
-// The text begins with the number of cases.
-fn cases(text: &[u8]) {
-    let mut at = 0;
-    let mut left = scan::number(text, &mut at);
-    while 0 < left {
-        case::printed(text, &mut at);
-        left -= 1;
+use std::io;
+use std::io::{BufWriter, Read, Write};
+
+// Reads until the input ends or the buffer is full, and answers how many bytes stand at its start.
+fn read_full(from: &mut impl Read, buffer: &mut [u8]) -> io::Result<usize>
+    ensures { ReadsAtMost result buffer.new }
+{
+    let mut done = 0;
+    while done < buffer.len() {
+        let more = from.read(&mut buffer[done..])?;
+        if more == 0 {
+            break;
+        }
+        done += more;
     }
+    Ok(done)
 }
 
-fn main() {
+// The text begins with the number of cases.
+fn cases(out: &mut impl Write, text: &[u8]) -> io::Result<()> {
+    let mut at = 0;
+    for _ in 0..scan::number(text, &mut at) {
+        case::printed(out, text, &mut at)?;
+    }
+    out.flush()
+}
+
+fn main(rt: HostRuntime) -> io::Result<()> {
     let mut file = [0u8; 400000];
-    let n = io::read_full(STDIN_FILENO, &mut file);
-    cases(&file[..n]);
+    let n = read_full(&mut rt.stdin(), &mut file)?;
+    let mut out = BufWriter::new(rt.alloc(), io::writer(&rt))?;
+    cases(&mut out, &file[..n])
 }

@@ -4,9 +4,11 @@ ghost use Rattle.std.specs.Prelude.{◌≡◌, ◌-◌, ◌≤◌, length, take,
 use crate::{print, scan};
 use machine::command;
 use protocols::place::{Drawn, Place, Received};
+use std::io;
+use std::io::Write;
 
 // Where the inputs and the four tapes end in the one list that holds them.
-#[derive(Drop)]
+#[derive(Clone, Copy)]
 pub struct Ends {
     pub inputs: usize,
     pub provider: usize,
@@ -15,7 +17,7 @@ pub struct Ends {
     pub three: usize,
 }
 
-#[derive(Drop)]
+#[derive(Clone, Copy)]
 struct Asked {
     code: u32,
     a: u32,
@@ -23,14 +25,14 @@ struct Asked {
 }
 
 // Reads a command, and prints the first part of its line.
-fn next_command(text: &[u8], at: &mut usize) -> Asked {
+fn next_command(out: &mut impl Write, text: &[u8], at: &mut usize) -> io::Result<Asked> {
     let code = scan::word(text, at);
     let a = scan::word(text, at);
     let b = scan::word(text, at);
-    print::first(code);
-    print::word(a);
-    print::word(b);
-    Asked { code, a, b }
+    print::first(out, code)?;
+    print::word(out, a)?;
+    print::word(out, b)?;
+    Ok(Asked { code, a, b })
 }
 
 // The place record at the start.
@@ -72,6 +74,7 @@ fn part(list: &[u32], from: usize, to: usize) -> &[u32]
 
 // The next command. Answers the place record that it leaves.
 fn step(
+    out: &mut impl Write,
     text: &[u8],
     at: &mut usize,
     place: Place,
@@ -85,8 +88,8 @@ fn step(
     received2: &mut [u32],
     received3: &mut [u32],
     controller: &mut [u32],
-) -> Place {
-    let asked = next_command(text, at);
+) -> io::Result<Place> {
+    let asked = next_command(out, text, at)?;
     let answer = command::command(
         asked.code,
         asked.a,
@@ -106,12 +109,13 @@ fn step(
         received3,
         controller,
     );
-    print::answer(answer);
-    answer.place
+    print::answer(out, answer)?;
+    Ok(answer.place)
 }
 
 // All commands of a case, refused ones among them.
 pub(crate) fn run(
+    out: &mut impl Write,
     text: &[u8],
     at: &mut usize,
     ends: Ends,
@@ -124,14 +128,13 @@ pub(crate) fn run(
     received2: &mut [u32],
     received3: &mut [u32],
     controller: &mut [u32],
-) {
+) -> io::Result<()> {
     let mut place = start(text, at);
-    let mut left = scan::number(text, at);
-    while 0 < left {
+    for _ in 0..scan::number(text, at) {
         place = step(
-            text, at, place, ends, read, share1, share2, share3, kinds, received1, received2,
+            out, text, at, place, ends, read, share1, share2, share3, kinds, received1, received2,
             received3, controller,
-        );
-        left -= 1;
+        )?;
     }
+    Ok(())
 }

@@ -1,45 +1,47 @@
 // Reads the text of the cases: numbers, and words that are there for the reader. What is public reads on from `at` and
 // moves it past what it read.
-ghost use Rattle.std.specs.Prelude.{◌≤◌, length};
-ghost use Rattle.io.specs.Counts.{IsPrefixLen};
+ghost use Rattle.std.specs.Prelude.{◌≡◌, ◌≤◌, length, take};
 
 fn is_digit(byte: u8) -> bool {
-    48 <= byte && byte <= 57
+    byte.is_ascii_digit()
 }
 
 fn is_space(byte: u8) -> bool {
-    byte == 32 || byte == 10
+    byte == b' ' || byte == b'\n'
 }
 
 // The next number's first digit. A digit within a word, as in tape1, begins no number.
 fn digit_from(text: &[u8], from: usize) -> usize {
-    let mut at = from;
     let mut within = false;
-    while at < text.len() && (within || !is_digit(text[at])) {
+    for at in from..text.len() {
+        if !within && is_digit(text[at]) {
+            return at;
+        }
         within = !is_space(text[at]);
-        at += 1;
     }
-    at
+    text.len()
 }
 
 // One more digit. (Places go up to 2^64 - 1; no number of the text is larger.)
 fn with_digit(value: u64, byte: u8) -> u64 {
     let digit = (byte % 16) as u64;
     if value <= 1844674407370955161 {
-        std::num::wrapping_add_u64(value * 10, digit)
+        (value * 10).wrapping_add(digit)
     } else {
         value
     }
 }
 
 pub(crate) fn number(text: &[u8], at: &mut usize) -> u64 {
-    let mut value: u64 = 0;
-    let mut next = digit_from(text, *at);
-    while next < text.len() && is_digit(text[next]) {
+    let mut value = 0;
+    for next in digit_from(text, *at)..text.len() {
+        if !is_digit(text[next]) {
+            *at = next;
+            return value;
+        }
         value = with_digit(value, text[next]);
-        next += 1;
     }
-    *at = next;
+    *at = text.len();
     value
 }
 
@@ -59,14 +61,14 @@ fn least(a: usize, b: usize) -> usize
 
 // Fills a list from a place in it on with the words that stand after their count, and answers where they end.
 pub(crate) fn list(text: &[u8], at: &mut usize, list: &mut [u32], from: usize) -> usize
-    ensures { IsPrefixLen result list.new }
+    ensures in_bounds { result ≤ length list.new }
+    ensures prefix_len { result ≡ length (take result list.new) }
 {
-    let mut left = number(text, at);
-    let mut end = least(from, list.len());
-    while 0 < left && end < list.len() {
-        list[end] = word(text, at);
-        end += 1;
-        left -= 1;
+    let words = count(text, at);
+    let start = least(from, list.len());
+    let end = start + least(words, list.len() - start);
+    for entry in &mut list[start..end] {
+        *entry = word(text, at);
     }
     end
 }
@@ -76,19 +78,29 @@ fn line_end(text: &[u8], from: usize) -> usize
     requires { from ≤ length text.now }
     ensures { (from ≤ result) × (result ≤ length text.now) }
 {
-    let mut at = from;
-    while at < text.len() && text[at] != 10 {
-        at += 1;
+    for at in from..text.len() {
+        if text[at] == b'\n' {
+            return at;
+        }
     }
-    at
+    text.len()
+}
+
+// Where a line begins: at the next byte that is no newline, or with the text's end.
+fn line_start(text: &[u8], from: usize) -> usize
+    ensures { result ≤ length text.now }
+{
+    for at in from..text.len() {
+        if text[at] != b'\n' {
+            return at;
+        }
+    }
+    text.len()
 }
 
 // The next line that is not empty.
 pub(crate) fn line<'a>(text: &'a [u8], at: &mut usize) -> &'a [u8] {
-    let mut from = least(*at, text.len());
-    while from < text.len() && text[from] == 10 {
-        from += 1;
-    }
+    let from = line_start(text, *at);
     let end = line_end(text, from);
     *at = end;
     &text[from..end]

@@ -5,4 +5,4 @@ use Rattle.pool.specs.declared.input.Input.TheVariants.{Whole, Failed}
 
 abbrev pub Counted : Input → List ℕ → Type 0
 Counted (Whole n) buffer = (n ≤ length buffer) × (n ≡ length (take n buffer))
-Counted Failed buffer = Unit {0}
+Counted (Failed e) buffer = Unit {0}

@@ -4,16 +4,13 @@
 mod input;
 
 use input::Input;
-use libc::STDOUT_FILENO;
 use session::pool::{BYTES, TEXT};
 use session::session::WORDS;
+use std::io;
+use std::process::ExitCode;
 
-fn main() {
-    let mut file = [0u8; BYTES + 1];
-    let Input::Whole(n) = input::read_whole(&mut file) else {
-        os::fail(b"pool: standard input");
-        return;
-    };
+// Runs the session of a file and prints what is to be printed of it.
+fn print_session(rt: &impl Print, file: &[u8]) -> io::Result<()> {
     let mut words = [0u32; WORDS];
     let mut share1 = [0u32; 128];
     let mut share2 = [0u32; 128];
@@ -25,7 +22,7 @@ fn main() {
     let mut controller = [0u32; 3584];
     let mut out = [0u8; TEXT];
     let length = session::pool::pool(
-        &file[..n],
+        file,
         &mut words,
         &mut share1,
         &mut share2,
@@ -37,7 +34,23 @@ fn main() {
         &mut controller,
         &mut out,
     );
-    if !io::write_all(STDOUT_FILENO, &out[..length]) {
-        os::fail(b"pool: standard output");
+    rt.write_all(&out[..length])
+}
+
+// Says on standard error what failed, with the system's message; where that fails too, the exit status still says it.
+fn failed(rt: &impl Eprint, what: &str, error: io::Error) -> ExitCode {
+    let _ = rt.eprintln(format_args!("pool: {what}: {error}"));
+    ExitCode::FAILURE
+}
+
+fn main(rt: HostRuntime) -> ExitCode {
+    let mut file = [0u8; BYTES + 1];
+    let n = match input::read_whole(&mut rt.stdin(), &mut file) {
+        Input::Whole(n) => n,
+        Input::Failed(error) => return failed(&rt, "standard input", error),
+    };
+    match print_session(&rt, &file[..n]) {
+        Ok(()) => ExitCode::SUCCESS,
+        Err(error) => failed(&rt, "standard output", error),
     }
 }

@@ -1,12 +1,13 @@
 // A session with lists of chosen lengths, all zero.
 ghost use Rattle.std.specs.Prelude.{◌≡◌, ◌≤◌, length, take};
 
-use libc::STDOUT_FILENO;
 use session::pool::TEXT;
 use session::session::WORDS;
+use std::io;
+use std::io::Write;
 
 // Entries of each share table and of the kind list, words of the controller's list, and words lent.
-#[derive(Drop)]
+#[derive(Clone, Copy)]
 pub struct Lending {
     pub entries: usize,
     pub kinds: usize,
@@ -21,7 +22,7 @@ fn at_most(n: usize, list: &[u32]) -> usize
     if n < list.len() { n } else { list.len() }
 }
 
-pub(crate) fn print(file: &[u8], lent: Lending) {
+pub(crate) fn print(out: &mut impl Write, file: &[u8], lent: Lending) -> io::Result<()> {
     let mut words = [0u32; WORDS];
     let mut share1 = [0u32; 128];
     let mut share2 = [0u32; 128];
@@ -31,7 +32,7 @@ pub(crate) fn print(file: &[u8], lent: Lending) {
     let mut received2 = [0u32; 3584];
     let mut received3 = [0u32; 3584];
     let mut controller = [0u32; 3584];
-    let mut out = [0u8; TEXT];
+    let mut text = [0u8; TEXT];
     let w = at_most(lent.words, &words);
     let n1 = at_most(lent.entries, &share1);
     let n2 = at_most(lent.entries, &share2);
@@ -49,7 +50,7 @@ pub(crate) fn print(file: &[u8], lent: Lending) {
         &mut received2,
         &mut received3,
         &mut controller[..c],
-        &mut out,
+        &mut text,
     );
-    io::write_all(STDOUT_FILENO, &out[..length]);
+    out.write_all(&text[..length])
 }

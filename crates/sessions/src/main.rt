@@ -3,15 +3,30 @@
 
 mod lending;
 
+ghost use Rattle.std.specs.Io.{ReadsAtMost};
+
 use lending::Lending;
-use libc::STDOUT_FILENO;
 use session::pool::BYTES;
+use std::env::FillError;
+use std::io::{BufWriter, Read, Write};
+use std::process::ExitCode;
+use std::rt::{Env, Files};
+use std::{fs, io};
+
+// What became of an argument.
+#[derive(Clone, Copy)]
+enum Argument {
+    Printed,
+    Failed,
+    Missing,
+}
 
 // The file's bytes stand at the start of the buffer; a file that is longer than any legal one fills it.
-fn print_all(file: &[u8]) {
+fn print_all(out: &mut impl Write, file: &[u8]) -> io::Result<()> {
     let entries = 128;
     let words = 7692;
     lending::print(
+        out,
         file,
         Lending {
             entries,
@@ -19,8 +34,9 @@ fn print_all(file: &[u8]) {
             controller: 3584,
             words,
         },
-    );
+    )?;
     lending::print(
+        out,
         file,
         Lending {
             entries: 1,
@@ -28,8 +44,9 @@ fn print_all(file: &[u8]) {
             controller: 2,
             words,
         },
-    );
+    )?;
     lending::print(
+        out,
         file,
         Lending {
             entries,
@@ -37,8 +54,9 @@ fn print_all(file: &[u8]) {
             controller: 3584,
             words: 7691,
         },
-    );
+    )?;
     lending::print(
+        out,
         file,
         Lending {
             entries,
@@ -46,34 +64,88 @@ fn print_all(file: &[u8]) {
             controller: 3584,
             words,
         },
-    );
+    )
 }
 
-fn print_file(path: &[u8]) {
-    let fd = os::open_read(path);
-    if fd < 0 {
-        os::fail(path);
-        return;
+// Reads until the input ends or the buffer is full, and answers how many bytes stand at its start.
+fn read_full(from: &mut impl Read, buffer: &mut [u8]) -> io::Result<usize>
+    ensures { ReadsAtMost result buffer.new }
+{
+    let mut done = 0;
+    while done < buffer.len() {
+        let more = from.read(&mut buffer[done..])?;
+        if more == 0 {
+            break;
+        }
+        done += more;
     }
+    Ok(done)
+}
+
+// Puts a file's bytes at the start of the buffer. A path that is not UTF-8 is refused, as `std::fs` has it.
+fn read_file(rt: &impl Files, path: &[u8], buffer: &mut [u8]) -> io::Result<usize>
+    ensures { ReadsAtMost result buffer.new }
+{
+    let Ok(path) = str::from_utf8(path) else {
+        return Err(io::Error::from(io::ErrorKind::InvalidInput));
+    };
+    read_full(&mut fs::open(rt, path)?, buffer)
+}
+
+// A file that can't be read is reported on standard error; where that fails too, the exit status still says it.
+fn print_file(
+    rt: &(impl Files + Eprint),
+    out: &mut impl Write,
+    path: &[u8],
+) -> io::Result<Argument> {
     let mut file = [0u8; BYTES + 1];
-    let n = io::read_full(fd, &mut file);
-    libc::close(fd);
-    print_all(&file[..n]);
-}
-
-fn print_argument(k: usize) {
-    let mut path = io::buffer();
-    let n = os::arg(k, &mut path);
-    io::write_all(STDOUT_FILENO, &path[..n]);
-    io::write_all(STDOUT_FILENO, b":\n");
-    print_file(&path[..n]);
-}
-
-fn main() {
-    let count = os::arg_count();
-    let mut k: usize = 1;
-    while k < count {
-        print_argument(k);
-        k += 1;
+    match read_file(rt, path, &mut file) {
+        Ok(n) => {
+            print_all(out, &file[..n])?;
+            Ok(Argument::Printed)
+        }
+        Err(error) => {
+            let _ = rt.eprintln(format_args!("{}: {error}", path.escape_ascii()));
+            Ok(Argument::Failed)
+        }
     }
+}
+
+fn print_argument(
+    rt: &(impl Env + Files + Eprint),
+    out: &mut impl Write,
+    k: usize,
+) -> io::Result<Argument> {
+    let mut path = [0u8; 4096];
+    match rt.arg(k, &mut path) {
+        Ok(n) => {
+            out.write_all(&path[..n])?;
+            out.write_all(b":\n")?;
+            print_file(rt, out, &path[..n])
+        }
+        Err(FillError::NotPresent) => Ok(Argument::Missing),
+        Err(FillError::TooLong) => {
+            let _ = rt.eprintln(format_args!("argument {k}: too long"));
+            Ok(Argument::Failed)
+        }
+    }
+}
+
+// Goes on past an argument that failed, and then answers so.
+fn print_arguments(rt: &(impl Env + Files + Eprint), out: &mut impl Write) -> io::Result<ExitCode> {
+    let mut status = ExitCode::SUCCESS;
+    for k in 1..usize::MAX {
+        match print_argument(rt, out, k)? {
+            Argument::Printed => {}
+            Argument::Failed => status = ExitCode::FAILURE,
+            Argument::Missing => break,
+        }
+    }
+    out.flush()?;
+    Ok(status)
+}
+
+fn main(rt: HostRuntime) -> io::Result<ExitCode> {
+    let mut out = BufWriter::new(rt.alloc(), io::writer(&rt))?;
+    print_arguments(&rt, &mut out)
 }

@@ -4,13 +4,15 @@ use crate::protocol::{Operands, Protocol};
 use crate::{lists, print, protocol, words};
 use protocols::place::{Drawn, Place, Received};
 use protocols::shares::Shares;
+use std::io;
+use std::io::Write;
 
 // How many words are lent of the tapes of the provider and miners 1 to 3, or of the lists of miners 1 to 3 and the controller.
-#[derive(Drop)]
+#[derive(Clone, Copy)]
 pub struct Lent(pub usize, pub usize, pub usize, pub usize);
 
 // A case, and where the generator is for its tapes.
-#[derive(Drop)]
+#[derive(Clone, Copy)]
 pub struct Case {
     pub operands: Operands,
     pub place: Place,
@@ -19,7 +21,7 @@ pub struct Case {
 }
 
 // An outcome with the lists, and where the generator is after the tapes.
-#[derive(Drop)]
+#[derive(Clone, Copy)]
 pub struct Performed {
     pub delivered: Delivered,
     pub next: u32,
@@ -28,12 +30,12 @@ pub struct Performed {
 // Two random values are never equal: so v becomes u, or a power of two away from it.
 fn near(u: Shares, v: Shares, word: u32) -> Shares {
     let apart = (word % 2) << (word / 2 % 32);
-    let value = std::num::wrapping_add_u32(std::num::wrapping_add_u32(u.one, u.two), u.three);
-    let rest = std::num::wrapping_sub_u32(std::num::wrapping_sub_u32(value, v.one), v.two);
+    let value = u.one.wrapping_add(u.two).wrapping_add(u.three);
+    let rest = value.wrapping_sub(v.one).wrapping_sub(v.two);
     Shares {
         one: v.one,
         two: v.two,
-        three: std::num::wrapping_add_u32(rest, apart),
+        three: rest.wrapping_add(apart),
     }
 }
 
@@ -172,16 +174,21 @@ pub(crate) fn perform(
 }
 
 // Prints a case in full, and answers where the generator is then.
-pub(crate) fn printed(label: &[u8], protocol: Protocol, from: u32) -> u32 {
+pub(crate) fn printed(
+    out: &mut impl Write,
+    label: &[u8],
+    protocol: Protocol,
+    from: u32,
+) -> io::Result<u32> {
     let case = generated(protocol, from);
     let x = case.operands;
     let performed = perform(protocol, x, case.place, whole(), whole(), case.next);
     let delivered = performed.delivered;
-    print::text(label);
-    print::case(protocol, x, delivered.outcome);
-    print::text(b"\n");
+    print::text(out, label)?;
+    print::case(out, protocol, x, delivered.outcome)?;
+    print::text(out, b"\n")?;
     if protocol::draws(protocol) {
-        print::moved(delivered);
+        print::moved(out, &delivered)?;
     }
-    performed.next
+    Ok(performed.next)
 }

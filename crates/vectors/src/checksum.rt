@@ -4,9 +4,11 @@ use crate::protocol::Protocol;
 use crate::{case, lists, print};
 use protocols::place::Place;
 use protocols::shares::Shares;
+use std::io;
+use std::io::Write;
 
 fn word(h: u32, n: u32) -> u32 {
-    ((h as u64 * 31 + n as u64) % 4294967296) as u32
+    h.wrapping_mul(31).wrapping_add(n)
 }
 
 fn count(h: u32, n: usize) -> u32 {
@@ -28,41 +30,36 @@ fn place(h: u32, place: Place) -> u32 {
 }
 
 // How many words were received, then the words.
-fn received(h: u32, list: List) -> u32 {
-    let words = list.words;
+fn received(h: u32, list: &List) -> u32 {
     let n = lists::received(list);
     let mut x = count(h, n);
-    let mut i = 0;
-    while i < n && i < 32 {
-        x = word(x, words[i]);
-        i += 1;
+    for entry in list.words.iter().take(n) {
+        x = word(x, *entry);
     }
     x
 }
 
-fn outcome(h: u32, delivered: Delivered) -> u32 {
+fn outcome(h: u32, delivered: &Delivered) -> u32 {
     let outcome = delivered.outcome;
     let a = shares(word(h, outcome.number), outcome.shares);
     let b = place(a, outcome.place);
-    let c = received(received(b, delivered.one), delivered.two);
-    received(received(c, delivered.three), delivered.controller)
+    let c = received(received(b, &delivered.one), &delivered.two);
+    received(received(c, &delivered.three), &delivered.controller)
 }
 
 // Tapes are cut, so that some of the outcomes are not done. Answers where the generator is then.
-pub(crate) fn printed(protocol: Protocol, from: u32) -> u32 {
+pub(crate) fn printed(out: &mut impl Write, protocol: Protocol, from: u32) -> io::Result<u32> {
     let mut next = from;
-    let mut h: u32 = 0;
-    let mut k: u32 = 0;
-    while k < 200 {
+    let mut h = 0;
+    for _ in 0..200 {
         let c = case::generated(protocol, next);
         let p = case::perform(protocol, c.operands, c.place, c.lent, case::whole(), c.next);
-        h = outcome(h, p.delivered);
+        h = outcome(h, &p.delivered);
         next = p.next;
-        k += 1;
     }
-    print::text(b"checksum ");
-    print::name(protocol);
-    print::word(h);
-    print::text(b"\n");
-    next
+    print::text(out, b"checksum ")?;
+    print::name(out, protocol)?;
+    print::word(out, h)?;
+    print::text(out, b"\n")?;
+    Ok(next)
 }

@@ -8,14 +8,14 @@ use crate::{protocol, words};
 use protocols::outcome::Outcome;
 use protocols::place::Place;
 
-// A list as it is left. (A type of its own: a field that is an array would need a local for each use.)
-#[derive(Drop)]
+// A list as it is left.
+#[derive(Clone, Copy)]
 pub struct List {
     pub words: [u32; 32],
 }
 
 // An outcome, and the lists as it leaves them.
-#[derive(Drop)]
+#[derive(Clone, Copy)]
 pub struct Delivered {
     pub outcome: Outcome,
     pub one: List,
@@ -31,9 +31,8 @@ fn row() -> [u32; 32] {
 }
 
 // How many words were put into a list.
-pub(crate) fn received(list: List) -> usize {
-    let words = list.words;
-    words::changed(&words, 100)
+pub(crate) fn received(list: &List) -> usize {
+    words::changed(&list.words, 100)
 }
 
 // Where a tail of so many words begins.

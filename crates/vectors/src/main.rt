@@ -11,32 +11,32 @@ mod short;
 mod words;
 mod worked;
 
-use protocol::Protocol;
+use protocol::{ALL, Protocol};
+use std::io;
+use std::io::{BufWriter, Write};
 
 // A protocol's generated cases: three in full, the tapes that end too soon, the lists that are too short, and two hundred as a
 // checksum. Answers where the generator is then.
-fn generated(protocol: Protocol, from: u32) -> u32 {
-    let second = case::printed(b"case 1 ", protocol, from);
-    let third = case::printed(b"case 2 ", protocol, second);
-    let fourth = case::printed(b"case 3 ", protocol, third);
-    let more = short::printed(protocol, fourth);
-    delivery::printed(protocol, fourth);
-    checksum::printed(protocol, more)
+fn generated(out: &mut impl Write, protocol: Protocol, from: u32) -> io::Result<u32> {
+    let second = case::printed(out, b"case 1 ", protocol, from)?;
+    let third = case::printed(out, b"case 2 ", protocol, second)?;
+    let fourth = case::printed(out, b"case 3 ", protocol, third)?;
+    let more = short::printed(out, protocol, fourth)?;
+    delivery::printed(out, protocol, fourth)?;
+    checksum::printed(out, protocol, more)
 }
 
 // Each protocol goes on with the words of the generator where the one before it stopped.
-fn main() {
-    worked::printed();
-    let mut at = generated(Protocol::Store, 1);
-    at = generated(Protocol::Add, at);
-    at = generated(Protocol::Subtract, at);
-    at = generated(Protocol::AddConstant, at);
-    at = generated(Protocol::TimesConstant, at);
-    at = generated(Protocol::Multiply, at);
-    at = generated(Protocol::Reshare, at);
-    at = generated(Protocol::Bits, at);
-    at = generated(Protocol::Bit, at);
-    at = generated(Protocol::Equal, at);
-    at = generated(Protocol::Open, at);
-    generated(Protocol::Below, at);
+fn printed(out: &mut impl Write) -> io::Result<()> {
+    worked::printed(out)?;
+    let mut at = 1;
+    for protocol in ALL {
+        at = generated(out, protocol, at)?;
+    }
+    out.flush()
+}
+
+fn main(rt: HostRuntime) -> io::Result<()> {
+    let mut out = BufWriter::new(rt.alloc(), io::writer(&rt))?;
+    printed(&mut out)
 }

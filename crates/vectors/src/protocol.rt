@@ -5,7 +5,7 @@ use protocols::shares::Shares;
 use protocols::{below, bit, bits, equal, local, multiply, open, reshare, store};
 
 // The commands of document 01.
-#[derive(Drop)]
+#[derive(Clone, Copy)]
 pub enum Protocol {
     Store,
     Add,
@@ -21,8 +21,24 @@ pub enum Protocol {
     Below,
 }
 
+// In the order in which they are run.
+pub(crate) const ALL: [Protocol; 12] = [
+    Protocol::Store,
+    Protocol::Add,
+    Protocol::Subtract,
+    Protocol::AddConstant,
+    Protocol::TimesConstant,
+    Protocol::Multiply,
+    Protocol::Reshare,
+    Protocol::Bits,
+    Protocol::Bit,
+    Protocol::Equal,
+    Protocol::Open,
+    Protocol::Below,
+];
+
 // Two shared values, and an input, a constant or a position.
-#[derive(Drop)]
+#[derive(Clone, Copy)]
 pub struct Operands {
     pub u: Shares,
     pub v: Shares,
@@ -31,7 +47,7 @@ pub struct Operands {
 
 // Words drawn from the provider's tape and those of miners 1 to 3, or received by miners 1 to 3 and the controller.
 // (Bytes: their sums fit.)
-#[derive(Drop)]
+#[derive(Clone, Copy)]
 pub struct Need(pub u8, pub u8, pub u8, pub u8);
 
 // Document 01's table, the words drawn.

@@ -2,7 +2,7 @@
 ghost use Rattle.std.specs.Prelude.{◌≡◌, length};
 
 fn step(x: u32) -> u32 {
-    ((x as u64 * 1664525 + 1013904223) % 4294967296) as u32
+    x.wrapping_mul(1664525).wrapping_add(1013904223)
 }
 
 // The low bits repeat too soon, so the high ones are folded into them.
@@ -15,11 +15,9 @@ pub(crate) fn fill(list: &mut [u32], from: u32) -> u32
     ensures { length list.new ≡ length list.old }
 {
     let mut x = from;
-    let mut i = 0;
-    while i < list.len() {
+    for entry in list.iter_mut() {
         x = step(x);
-        list[i] = word(x);
-        i += 1;
+        *entry = word(x);
     }
     x
 }
@@ -29,11 +27,9 @@ pub(crate) fn count_from(list: &mut [u32], first: u32)
     ensures { length list.new ≡ length list.old }
 {
     let mut x = first;
-    let mut i = 0;
-    while i < list.len() {
-        list[i] = x;
-        x = std::num::wrapping_add_u32(x, 1);
-        i += 1;
+    for entry in list.iter_mut() {
+        *entry = x;
+        x = x.wrapping_add(1);
     }
 }
 
@@ -41,13 +37,11 @@ pub(crate) fn count_from(list: &mut [u32], first: u32)
 pub(crate) fn changed(list: &[u32], first: u32) -> usize {
     let mut count: usize = 0;
     let mut x = first;
-    let mut i = 0;
-    while i < list.len() {
-        if list[i] != x {
+    for entry in list {
+        if *entry != x {
             count += 1;
         }
-        x = std::num::wrapping_add_u32(x, 1);
-        i += 1;
+        x = x.wrapping_add(1);
     }
     count
 }

@@ -2,6 +2,8 @@
 use crate::protocol::{Operands, Protocol};
 use crate::{case, lists, print, words};
 use protocols::shares::Shares;
+use std::io;
+use std::io::Write;
 
 fn shares(s: [u32; 3]) -> Shares {
     Shares {
@@ -33,12 +35,13 @@ fn with(u: [u32; 3], w: u32) -> Operands {
 fn value(protocol: Protocol, s: Shares) -> u32 {
     match protocol {
         Protocol::Bits => s.one ^ s.two ^ s.three,
-        _ => std::num::wrapping_add_u32(std::num::wrapping_add_u32(s.one, s.two), s.three),
+        _ => s.one.wrapping_add(s.two).wrapping_add(s.three),
     }
 }
 
 // Performs a case from an empty place record, and prints it with the value that its shares give.
 fn line(
+    out: &mut impl Write,
     label: &[u8],
     protocol: Protocol,
     x: Operands,
@@ -46,7 +49,7 @@ fn line(
     tape1: &[u32],
     tape2: &[u32],
     tape3: &[u32],
-) {
+) -> io::Result<()> {
     let place = case::record([0; 10]);
     let delivered = lists::perform(
         protocol,
@@ -59,15 +62,21 @@ fn line(
         tape3,
     );
     let outcome = delivered.outcome;
-    print::text(label);
-    print::case(protocol, x, outcome);
-    print::text(b" value");
-    print::word(value(protocol, outcome.shares));
-    print::text(b"\n");
+    print::text(out, label)?;
+    print::case(out, protocol, x, outcome)?;
+    print::text(out, b" value")?;
+    print::word(out, value(protocol, outcome.shares))?;
+    print::text(out, b"\n")
 }
 
 // Tapes of numbers in a row, but for the first word of miner 1's.
-fn in_a_row(label: &[u8], protocol: Protocol, x: Operands, first: u32) {
+fn in_a_row(
+    out: &mut impl Write,
+    label: &[u8],
+    protocol: Protocol,
+    x: Operands,
+    first: u32,
+) -> io::Result<()> {
     let mut tape1 = [0u32; 18];
     let mut tape2 = [0u32; 12];
     let mut tape3 = [0u32; 12];
@@ -75,18 +84,19 @@ fn in_a_row(label: &[u8], protocol: Protocol, x: Operands, first: u32) {
     words::count_from(&mut tape2, 20);
     words::count_from(&mut tape3, 40);
     tape1[0] = first;
-    line(label, protocol, x, &[], &tape1, &tape2, &tape3);
+    line(out, label, protocol, x, &[], &tape1, &tape2, &tape3)
 }
 
 // M1 to M4.
-fn session() {
+fn session(out: &mut impl Write) -> io::Result<()> {
     let seven = with([0, 0, 0], 7);
     let five = with([0, 0, 0], 5);
     let factors = pair([1, 2, 4], [3, 4, 4294967294]);
     let product = with([4294967149, 4294966074, 1404], 0);
-    line(b"M1 ", Protocol::Store, seven, &[1, 2], &[], &[], &[]);
-    line(b"M2 ", Protocol::Store, five, &[3, 4], &[], &[], &[]);
+    line(out, b"M1 ", Protocol::Store, seven, &[1, 2], &[], &[], &[])?;
+    line(out, b"M2 ", Protocol::Store, five, &[3, 4], &[], &[], &[])?;
     line(
+        out,
         b"M3 ",
         Protocol::Multiply,
         factors,
@@ -94,39 +104,54 @@ fn session() {
         &[10, 20],
         &[30, 40],
         &[50, 60],
-    );
-    line(b"M4 ", Protocol::Open, product, &[], &[70], &[80], &[90]);
+    )?;
+    line(
+        out,
+        b"M4 ",
+        Protocol::Open,
+        product,
+        &[],
+        &[70],
+        &[80],
+        &[90],
+    )
 }
 
 // M5 and M6, and the ends of a word. Past it commands refuse, and the protocol reads 0.
-fn bits() {
+fn bits(out: &mut impl Write) -> io::Result<()> {
     let no = with([1, 0, 1], 0);
     let yes = with([0, 1, 0], 0);
     let ones = [4294967295, 4294967295, 4294967295];
-    line(b"M5 ", Protocol::Bit, no, &[], &[1, 5, 0], &[], &[]);
-    line(b"M6 ", Protocol::Bit, yes, &[], &[0, 5, 0], &[], &[]);
-    in_a_row(b"first ", Protocol::Bit, with(ones, 0), 1);
-    in_a_row(b"last ", Protocol::Bit, with(ones, 31), 1);
-    in_a_row(b"past ", Protocol::Bit, with(ones, 32), 1);
+    line(out, b"M5 ", Protocol::Bit, no, &[], &[1, 5, 0], &[], &[])?;
+    line(out, b"M6 ", Protocol::Bit, yes, &[], &[0, 5, 0], &[], &[])?;
+    in_a_row(out, b"first ", Protocol::Bit, with(ones, 0), 1)?;
+    in_a_row(out, b"last ", Protocol::Bit, with(ones, 31), 1)?;
+    in_a_row(out, b"past ", Protocol::Bit, with(ones, 32), 1)
 }
 
 // M7 to M12.
-fn rounds() {
+fn rounds(out: &mut impl Write) -> io::Result<()> {
     let zero = with([5, 6, 4294967285], 0);
     let powers = pair([65536, 0, 0], [0, 65536, 0]);
     let most = pair([4294967295, 1, 4294967295], [1, 1, 4294967294]);
-    in_a_row(b"M7 ", Protocol::Bits, zero, 4294967295);
-    in_a_row(b"M8 ", Protocol::Equal, pair([1, 2, 4], [3, 4, 0]), 1);
-    in_a_row(b"M9 ", Protocol::Equal, pair([9, 2, 3], [8, 2, 3]), 1);
-    in_a_row(b"M10 ", Protocol::Multiply, powers, 1);
-    in_a_row(b"M11 ", Protocol::Below, pair([0, 1, 2], [2, 2, 1]), 1);
-    in_a_row(b"M11 too ", Protocol::Below, pair([0, 1, 4], [2, 2, 1]), 1);
-    in_a_row(b"M12 ", Protocol::Below, most, 1);
+    in_a_row(out, b"M7 ", Protocol::Bits, zero, 4294967295)?;
+    in_a_row(out, b"M8 ", Protocol::Equal, pair([1, 2, 4], [3, 4, 0]), 1)?;
+    in_a_row(out, b"M9 ", Protocol::Equal, pair([9, 2, 3], [8, 2, 3]), 1)?;
+    in_a_row(out, b"M10 ", Protocol::Multiply, powers, 1)?;
+    in_a_row(out, b"M11 ", Protocol::Below, pair([0, 1, 2], [2, 2, 1]), 1)?;
+    in_a_row(
+        out,
+        b"M11 too ",
+        Protocol::Below,
+        pair([0, 1, 4], [2, 2, 1]),
+        1,
+    )?;
+    in_a_row(out, b"M12 ", Protocol::Below, most, 1)
 }
 
 // All of them.
-pub(crate) fn printed() {
-    session();
-    bits();
-    rounds();
+pub(crate) fn printed(out: &mut impl Write) -> io::Result<()> {
+    session(out)?;
+    bits(out)?;
+    rounds(out)
 }
