@@ -49,13 +49,14 @@ small_or a b = by_test (ltb a 2) (ltb b 2) refl refl
     by_test false t e f = le-ltb (bit_or a b) 2 (omega (arith, ltb-false a 2 e, or_above a b))
 
 -- all kinds up to an index, and the next one
-pub rest-and : (kinds : List ℕ) (n i seen less : ℕ) → ltb less 2 ≡ is_kind (get_or kinds i 0) → i < n → i < length kinds
+pub rest-and : (kinds : List ℕ) (n i : ℕ) (all : Bool) → i < n → i < length kinds → (all && rest kinds n i) ≡ ((all && is_kind (get_or kinds i 0)) && rest kinds n (i + 1))
+rest-and kinds n i true h g = rest_next kinds n i h g
+rest-and kinds n i false h g = refl
+
+-- the same by words that have no bit but the lowest just where all kinds so far are 1 or 2
+pub rest-or : (kinds : List ℕ) (n i seen less : ℕ) → ltb less 2 ≡ is_kind (get_or kinds i 0) → i < n → i < length kinds
     → (ltb seen 2 && rest kinds n i) ≡ (ltb (bit_or seen less) 2 && rest kinds n (i + 1))
-rest-and kinds n i seen less e h g = rw (small_or seen less, e) (by_test (ltb seen 2))
-  where
-    by_test : (t : Bool) → (t && rest kinds n i) ≡ ((t && is_kind (get_or kinds i 0)) && rest kinds n (i + 1))
-    by_test true = rest_next kinds n i h g
-    by_test false = refl
+rest-or kinds n i seen less e h g = rw (small_or seen less, e) (rest-and kinds n i (ltb seen 2) h g)
 
 pub rest_none : (kinds : List ℕ) (n i : ℕ) (all : Bool) → n ≤ i → (all && rest kinds n i) ≡ all
 unfolding are_kinds

@@ -88,7 +88,7 @@ module _ (cs : List ℕ) (at k : ℕ) (a : Answer) (l : Lent) where
   unfolding accepted last_of
   run_end h = rw (commands_end cs at h, to_refusal_none, none_more k)
 
--- ---- a run where number 4 applies
+-- ---- a run of none, and one where number 4 applies
 
 refused_unsound : (n : ℕ) (c : Command) (p : Place) (l : Lent) → sound p (sizes l) l.kinds ≡ false → command n c p l ≡ outcome (answer 4 p 0) l
 unfolding command verdict
@@ -98,17 +98,24 @@ module _ (cs : List ℕ) (p : Place) (l : Lent) where
   from_start : end_after 0 (answer 0 p 0) (run_to_refusal 5 (commands_of (drop 0 cs)) p l) ≡ end_of p (run_to_refusal 5 (commands_of cs) p l)
   from_start = none_before p (run_to_refusal 5 (commands_of cs) p l)
 
+  pub run_none : length cs < 3 → (a : Answer) → a ≡ answer 0 p 0 → ended (record { done = 0; last = a }) l ≡ end_of p (run_to_refusal 5 (commands_of cs) p l)
+  run_none h a e = rw e (run_end cs 0 0 (answer 0 p 0) l (omega arith) ∙ from_start)
+
+  pub run_unsound : ¬ (length cs < 3) → sound p (sizes l) l.kinds ≡ false → (a : Answer) → a ≡ answer 4 p 0
+      → ended (record { done = 0; last = a }) l ≡ end_of p (run_to_refusal 5 (commands_of cs) p l)
+  run_unsound h s a e =
+      rw e
+      (run_stop cs 0 0 (answer 0 p 0) l (omega arith) (outcome (answer 4 p 0) l) (sym (refused_unsound 5 _ p l s)) (λ f. omega arith) ∙ from_start)
+
   -- refused at the first command, if there is one
-  pub run_unsound : sound p (sizes l) l.kinds ≡ false → (r : Run) → (r.done ≡ 0) × (r.last ≡ answer (check 4 (ltb (length cs) 3) 0) p 0)
+  pub run_refused_first : sound p (sizes l) l.kinds ≡ false → (r : Run) → (r.done ≡ 0) × (r.last ≡ answer (check 4 (ltb (length cs) 3) 0) p 0)
       → ended r l ≡ end_of p (run_to_refusal 5 (commands_of cs) p l)
-  run_unsound s r e = (λ i. ended (record { done = e.0 i; last = e.1 i }) l) ∙ by_test (ltb (length cs) 3) refl ∙ from_start
+  run_refused_first s r e = (λ i. ended (record { done = e.0 i; last = e.1 i }) l) ∙ by_test (ltb (length cs) 3) refl
     where
       by_test : (t : Bool) → ltb (length cs) 3 ≡ t
-          → ended (record { done = 0; last = answer (check 4 t 0) p 0 }) l ≡ end_after 0 (answer 0 p 0) (run_to_refusal 5 (commands_of (drop 0 cs)) p l)
-      by_test true e = let few : length cs < 3 = ltb-true (length cs) 3 e in run_end cs 0 0 (answer 0 p 0) l (omega (arith, few))
-      by_test false e =
-          let some : 3 ≤ length cs = ltb-false (length cs) 3 e in
-          run_stop cs 0 0 (answer 0 p 0) l (omega (arith, some)) (outcome (answer 4 p 0) l) (sym (refused_unsound 5 _ p l s)) (λ f. omega (arith, f))
+          → ended (record { done = 0; last = answer (check 4 t 0) p 0 }) l ≡ end_of p (run_to_refusal 5 (commands_of cs) p l)
+      by_test true e = run_none (ltb-true (length cs) 3 e) (answer 0 p 0) refl
+      by_test false e = let some : 3 ≤ length cs = ltb-false (length cs) 3 e in run_unsound (λ h. omega (arith, h, some)) s (answer 4 p 0) refl
 
 -- ---- a run of one
 

@@ -1,7 +1,7 @@
 -- `machine::judge::are_kinds` meets its contract.
 use Rattle.std.proofs.Common.{nat_lt, sym, ap, ◌∙◌, arith}
 use Rattle.machine.specs.Verdict.{are_kinds}
-use Rattle.machine.proofs.Laws.KindTest.{rest-start, rest-and, rest_none}
+use Rattle.machine.proofs.Laws.KindTest.{rest-start, rest-or, rest_none}
 use Rattle.machine.proofs.judge.are_kinds.Goals as goal
 
 pub loop-i-init : goal.loop-i-init
@@ -15,7 +15,7 @@ pub loop-i-preserved : goal.loop-i-preserved
 loop-i-preserved c = record {
   within = c.loop-i.invariant.within;
   in_range = omega arith;
-  all = c.loop-i.invariant.all ∙ rest-and _ _ _ c.loop-i.seen c.less_one-seen.result c.less_one-seen.ensures.1 c.loop-i-test.true (omega arith);
+  all = c.loop-i.invariant.all ∙ rest-or _ _ _ c.loop-i.seen c.less_one-seen.result c.less_one-seen.ensures.1 c.loop-i-test.true (omega arith);
 }
 
 pub returns : goal.returns
