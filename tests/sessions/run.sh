@@ -29,8 +29,9 @@ done
 # Seeded sessions through the program, the session call and the pool call.
 "$built/differential" 20000 target/bin/pool
 
-# A failed read (of a folder) prints no verdict, a failed write (to a full device) is told on standard error.
-test -z "$(target/bin/pool < examples 2> "$fresh/read")"
+# A failed read (of a folder) prints no verdict, a failed write (to a full device) is told on standard error; both are told by the status.
+if target/bin/pool < examples > "$fresh/verdict" 2> "$fresh/read"; then exit 1; fi
+test ! -s "$fresh/verdict"
 test -s "$fresh/read"
-target/bin/pool < crates/sessions/data/worked > /dev/full 2> "$fresh/write"
+if target/bin/pool < crates/sessions/data/worked > /dev/full 2> "$fresh/write"; then exit 1; fi
 test -s "$fresh/write"
