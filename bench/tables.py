@@ -9,8 +9,8 @@ GROWTH = [1, 2, 4, 8, 16, 32, 64, 128]
 
 ABOUT = """\
 Engine: the static library. Twin: `bench/twin`, safe Rust without allocation, which must first answer and write the same \
-words on seeded commands and sessions. Both are compiled for plain x86-64 (the twin by `rustc -C opt-level=3 -C \
-codegen-units=1`). A ratio is the engine's figure by the twin's.
+words on seeded commands and sessions. Both are compiled for x86-64-v2 (the twin by `rustc -C opt-level=3 -C \
+codegen-units=1 -C target-cpu=x86-64-v2`). A ratio is the engine's figure by the twin's.
 
 - Calls are repeated on the same lists, which are not cleared between them: every call leaves the same words. The loop \
 about the calls and the passing of arguments count on both sides.
