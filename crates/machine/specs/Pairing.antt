@@ -2,7 +2,7 @@
 use Rattle.std.specs.Prelude.{◌≡◌}
 use Rattle.protocols.specs.Place.{Tapes}
 
--- 'Tapes pair off when a one_to_one matching takes all contents of their lengths, taken together, onto all of them': `to` is the
+-- 'Tapes pair off when a one-to-one matching takes all contents of their lengths, taken together, onto all of them': `to` is the
 -- matching and `back` the way back. Both lead from contents that are Ok to contents that are Ok, and each undoes the other. Of the two
 -- of a pair, first and second, Alike holds.
 pub record Pairing (Ok : Tapes → Type 0) (Alike : Tapes → Tapes → Type 0) : Type 0 where

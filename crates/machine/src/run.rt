@@ -62,7 +62,8 @@ fn run_soundly(
             c, last.place, share1, share2, share3, kinds, inputs, provider, tape1, tape2, tape3,
             received1, received2, received3, controller,
         );
-        if last.number != 0 {
+        let refused = last.number != 0;
+        if refused {
             return Run { done, last };
         }
         done += 1;

@@ -1,5 +1,5 @@
 -- Words of w = 2 ^ n bits, with ring and bit operations. (01, 'What the engine covers'; 000, section 3.4)
--- Exclusive or and 'and' of words are the library's bitXor and bitAnd; on single bits they are those of Z_2.
+-- Exclusive or and 'and' of words are the library's bit_xor and bit_and; on single bits they are those of Z_2.
 use Rattle.std.specs.Prelude.{ℕ, zero, suc, ◌+◌, ◌-◌, ◌*◌, ◌/◌, ◌%◌, ◌^◌}
 
 -- 01: a word is an unsigned 32-bit number, which is n = 5

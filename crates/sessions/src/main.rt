@@ -125,6 +125,7 @@ fn print_argument(
         }
         Err(FillError::NotPresent) => Ok(Argument::Missing),
         Err(FillError::TooLong) => {
+            out.write_all(b":\n")?;
             let _ = rt.eprintln(format_args!("argument {k}: too long"));
             Ok(Argument::Failed)
         }

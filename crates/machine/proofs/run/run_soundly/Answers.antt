@@ -23,8 +23,8 @@ loop-at-init c =
 pub step-last-requires : goal.step-last-requires
 step-last-requires c = c.loop-at.invariant.stays_sound
 
-pub returns-then-last-ne0 : goal.returns-then-last-ne0
-returns-then-last-ne0 c =
+pub returns-then-refused : goal.returns-then-refused
+returns-then-refused c =
     let a = c.args in
     let l = c.loop-at in
     let now : Lent =
@@ -35,7 +35,7 @@ returns-then-last-ne0 c =
     outcome s.result
     (held s.new.share1 s.new.share2 s.new.share3 s.new.kinds a.inputs.now a.provider.now a.tape1.now a.tape2.now a.tape3.now s.new.received1
     s.new.received2 s.new.received3 s.new.controller) in
-    run_stop a.commands.now l.at l.done l.last now c.loop-at-test.true after s.ensures c.if-last-ne0.true ∙ l.invariant.comes_to_the_whole
+    run_stop a.commands.now l.at l.done l.last now c.loop-at-test.true after s.ensures c.if-refused.true ∙ l.invariant.comes_to_the_whole
 
 pub loop-at-preserved : goal.loop-at-preserved
 loop-at-preserved c =
@@ -54,7 +54,7 @@ loop-at-preserved c =
       counted = omega arith;
       stays_sound = run_sound a.commands.now l.at l.done l.last now c.loop-at-test.true after s.ensures l.invariant.stays_sound;
       comes_to_the_whole =
-          run_turn a.commands.now l.at l.done l.last now c.loop-at-test.true after s.ensures c.if-last-ne0.false
+          run_turn a.commands.now l.at l.done l.last now c.loop-at-test.true after s.ensures c.if-refused.false
           ∙ l.invariant.comes_to_the_whole;
     }
 
