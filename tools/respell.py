@@ -1,5 +1,5 @@
 #!/usr/bin/env python3
-"""Brings the repository's own antt names to the library's spelling; run once, after /opt/rattle/port/port.py.
+"""Brings the repository's own antt names to the library's spelling; run once, after the kit's port.py.
 
 usage: python3 tools/respell.py [--check]
 

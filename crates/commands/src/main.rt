@@ -9,7 +9,7 @@ mod scan;
 ghost use Rattle.std.specs.Io.{ReadsAtMost};
 
 use std::io;
-use std::io::{BufWriter, Read, Write};
+use std::io::{Read, Write};
 
 // Reads until the input ends or the buffer is full, and answers how many bytes stand at its start.
 fn read_full(from: &mut impl Read, buffer: &mut [u8]) -> io::Result<usize>
@@ -32,12 +32,11 @@ fn cases(out: &mut impl Write, text: &[u8]) -> io::Result<()> {
     for _ in 0..scan::number(text, &mut at) {
         case::printed(out, text, &mut at)?;
     }
-    out.flush()
+    Ok(())
 }
 
 fn main(rt: HostRuntime) -> io::Result<()> {
     let mut file = [0u8; 400000];
     let n = read_full(&mut rt.stdin(), &mut file)?;
-    let mut out = BufWriter::new(rt.alloc(), io::writer(&rt))?;
-    cases(&mut out, &file[..n])
+    cases(&mut io::writer(&rt), &file[..n])
 }

@@ -8,7 +8,7 @@ ghost use Rattle.std.specs.Io.{ReadsAtMost};
 use lending::Lending;
 use session::pool::BYTES;
 use std::env::FillError;
-use std::io::{BufWriter, Read, Write};
+use std::io::{Read, Write};
 use std::process::ExitCode;
 use std::rt::{Env, Files};
 use std::{fs, io};
@@ -142,11 +142,9 @@ fn print_arguments(rt: &(impl Env + Files + Eprint), out: &mut impl Write) -> io
             Argument::Missing => break,
         }
     }
-    out.flush()?;
     Ok(status)
 }
 
 fn main(rt: HostRuntime) -> io::Result<ExitCode> {
-    let mut out = BufWriter::new(rt.alloc(), io::writer(&rt))?;
-    print_arguments(&rt, &mut out)
+    print_arguments(&rt, &mut io::writer(&rt))
 }
