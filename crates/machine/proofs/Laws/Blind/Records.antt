@@ -22,14 +22,14 @@ pairings P = record {
 
 -- ---- lists by their entries
 
-get_d_take : (l : List ℕ) (n k : ℕ) → k < n → get_or (take n l) k 0 ≡ get_or l k 0
-get_d_take l zero k h = absurd (omega arith)
-get_d_take [] (suc n) k h = refl
-get_d_take (x ∷ l) (suc n) zero h = refl
-get_d_take (x ∷ l) (suc n) (suc k) h = get_d_take l n k (omega arith)
+get_or-take : (l : List ℕ) (n k : ℕ) → k < n → get_or (take n l) k 0 ≡ get_or l k 0
+get_or-take l zero k h = absurd (omega arith)
+get_or-take [] (suc n) k h = refl
+get_or-take (x ∷ l) (suc n) zero h = refl
+get_or-take (x ∷ l) (suc n) (suc k) h = get_or-take l n k (omega arith)
 
 taken-same : (l l' : List ℕ) (n n' k : ℕ) → take n l ≡ take n' l' → k < n → k < n' → get_or l k 0 ≡ get_or l' k 0
-taken-same l l' n n' k e h h' = sym (get_d_take l n k h) ∙ ap (λ (t : List ℕ). get_or t k 0) e ∙ get_d_take l' n' k h'
+taken-same l l' n n' k e h h' = sym (get_or-take l n k h) ∙ ap (λ (t : List ℕ). get_or t k 0) e ∙ get_or-take l' n' k h'
 
 -- ---- records
 
