@@ -96,7 +96,8 @@ pub fn run(
         share1, share2, share3, kinds, inputs, provider, tape1, tape2, tape3, received1, received2,
         received3, controller,
     );
-    if !judge::is_sound(start, sizes, kinds) {
+    let unsound = !judge::is_sound(start, sizes, kinds);
+    if unsound {
         return refuse_first(commands.len(), start);
     }
     run_soundly(

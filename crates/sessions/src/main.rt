@@ -132,7 +132,7 @@ fn print_argument(
     }
 }
 
-// Goes on past an argument that failed, and then answers so.
+// Argument after argument, until one is missing. One that failed does not end the run, but the status tells it.
 fn print_arguments(rt: &(impl Env + Files + Eprint), out: &mut impl Write) -> io::Result<ExitCode> {
     let mut status = ExitCode::SUCCESS;
     for k in 1..usize::MAX {

@@ -8,11 +8,13 @@ use Rattle.protocols.specs.declared.place.Party.TheVariants.{Provider, One, Two,
 use Rattle.protocols.specs.declared.place.Place.{Place}
 use Rattle.protocols.specs.declared.shares.Shares.{Shares}
 use Rattle.protocols.specs.declared.outcome.Outcome.{Outcome}
-use Rattle.protocols.specs.Place.{Tapes, tapes, tape, Lists, count, counts}
+use Rattle.protocols.specs.Shares.{AreWords}
+use Rattle.protocols.specs.Place.{Tapes, tapes, tape, Lists, lists, controller, count, counts}
+use Rattle.protocols.specs.Counts.{Counted, received}
 use Rattle.protocols.specs.Protocol.{Protocol, on, locally, Answer, perform}
 use Rattle.protocols.specs.Outcome.{Delivered, finished, delivered, delivery}
 use Rattle.protocols.proofs.Claims.{claims}
-use Rattle.protocols.proofs.Laws.Deliveries.{delivery-silence}
+use Rattle.protocols.proofs.Laws.Deliveries.{delivery-silence, controller_kept}
 use Rattle.protocols.proofs.Laws.Perform.{perform-on, perform-locally}
 
 -- draws so many words of each tape
@@ -52,6 +54,15 @@ module _ {S Z : Type 0} (part : S → Z) (f : Protocol Z Shares) (s : S) (p : Pl
       agree One h = refl
       agree Two h = refl
       agree Three h = refl
+
+-- by the miners alone, and no word is for the controller
+pub among_miners : {S Z : Type 0} {m : ℕ} {Good : Z → Type 0} {i j k q r u : ℕ} (part : S → Z) (f : Protocol Z Shares) (s : S) (p : Place)
+    (w x y z a b c d : List ℕ) {o : Outcome} {a' b' c' : List ℕ} → Counted m f Good (AreWords m) (counts 0 i j k) (received q r u 0)
+    → delivered o (lists a' b' c' []) ≡ delivery p (perform f (part s) p (tapes [] x y z)) (lists a b c [])
+    → delivered o (lists a' b' c' d) ≡ delivery p (perform (on part f) s p (tapes w x y z)) (lists a b c d)
+among_miners part f s p w x y z a b c d t h =
+    lent_miners part f s p w x y z (lists a b c d) t.drawn
+    (controller_kept f (part s) p (tapes [] x y z) a b c d _ (λ v. t.long (part s) v controller) h)
 
 pub lent_nothing : {S Z : Type 0} (part : S → Z) (f : Z → Shares) (s : S) (p : Place) (t : Tapes) (l : Lists) {o : Outcome} {x : Shares}
     → o ≡ finished x p → x ≡ f (part s) → delivered o l ≡ delivery p (perform (on part (locally f)) s p t) l

@@ -1,6 +1,7 @@
 -- A session, case by case.
 use Prim.Native.Nat.{ℕ, ◌/◌, ◌≤◌}
 use mathlib.Core.Path.{◌≡◌, ◌∙◌, ap, sym}
+use mathlib.Core.Bool.{Bool, ◌&&◌}
 use mathlib.Core.List.{List}
 use native.Mathlib.Omega.{arith}
 use lib.ListN.{length, take}
@@ -12,9 +13,15 @@ use Rattle.protocols.proofs.Laws.Deliveries.{both}
 use Rattle.session.specs.declared.answer.SessionAnswer.{SessionAnswer}
 use Rattle.session.specs.Words.{words_of}
 use Rattle.session.specs.Contents.{sheet_of}
-use Rattle.session.specs.Session.{State, outcome, lent_with, is_lent, refusal, refused, Finish, finish, finished, performed, run_of, with_words, session}
+use Rattle.session.specs.Session.{State, outcome, lent_with, tested, refusal, refused, Finish, finish, finished, performed, run_of, with_words, session}
 use Rattle.session.proofs.Laws.Words.{front}
 use Rattle.session.proofs.Laws.Contents.{accepted, fits_lent}
+
+-- where numbers 1 to 4 do not apply, the lent words hold the file's; as the code has it, with the test of the other lengths first
+pub words_lent : (f w : List ℕ) (alike : Bool) → tested f (alike && leb 7692 (length w)) ≡ 0 → length f / 4 ≤ length w
+words_lent f w alike h =
+    let a = accepted f (alike && leb 7692 (length w)) h in
+    omega (arith, fits_lent f a, leb-true 7692 (length w) (both alike (leb 7692 (length w)) a.enough).1)
 
 module _ (f w : List ℕ) (s : State) where
   pub session-refused : ¬ (refusal f w s ≡ 0) → session f w s ≡ refused (refusal f w s) w s
@@ -26,9 +33,7 @@ module _ (f w : List ℕ) (s : State) where
   session-run h = rw (eq-eqb (refusal f w s) 0 h)
 
   pub words_fit : refusal f w s ≡ 0 → length f / 4 ≤ length w
-  words_fit h =
-      let a = accepted f (is_lent (sheet_of (words_of f)) w s) h in
-      omega (arith, fits_lent f a, leb-true 7692 (length w) (both (same_length (sizes (lent_with (sheet_of (words_of f)) s))) (leb 7692 (length w)) a.enough).1)
+  words_fit = words_lent f w (same_length (sizes (lent_with (sheet_of (words_of f)) s)))
 
   -- as the code has it: v is what the lent words are after decoding
   pub session-done : refusal f w s ≡ 0 → (v : List ℕ) → v ≡ with_words f w → (a : SessionAnswer) (t : State)

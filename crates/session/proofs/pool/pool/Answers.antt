@@ -1,9 +1,6 @@
 -- `session::pool::pool` meets its contract.
 use Rattle.std.proofs.Common.{◌≤◌, length, sym, arith}
 use Rattle.std.proofs.Math.Seq.{length-take-le}
-use Rattle.protocols.specs.Place.{lists}
-use Rattle.machine.specs.Lent.{tables}
-use Rattle.session.specs.Session.{State, state}
 use Rattle.session.proofs.Laws.Text.{refused_line-length}
 use Rattle.session.proofs.Laws.Report.{long-put, run-put, left_readable}
 use Rattle.session.proofs.pool.pool.Goals as goal
@@ -11,10 +8,7 @@ use Rattle.session.proofs.pool.pool.Goals as goal
 pub returns-then-file-gt-BYTES-clause-printed : goal.returns-then-file-gt-BYTES-clause-printed
 returns-then-file-gt-BYTES-clause-printed c =
     let a = c.args in
-    let s : State =
-    state (tables a.share1.now a.share2.now a.share3.now) a.kinds.now (lists a.received1.now a.received2.now a.received3.now a.controller.now)
-    in
-    long-put a.file.now a.words.now s a.out.now c.if-file-gt-BYTES.true c.put_refused.ensures
+    long-put a.file.now a.words.now _ a.out.now c.if-file-gt-BYTES.true c.put_refused.ensures
 
 pub returns-then-file-gt-BYTES-clause-within : goal.returns-then-file-gt-BYTES-clause-within
 returns-then-file-gt-BYTES-clause-within c =
@@ -25,16 +19,10 @@ returns-then-file-gt-BYTES-clause-within c =
 pub report-requires : goal.report-requires
 report-requires c =
     let a = c.args in
-    let s : State =
-    state (tables a.share1.now a.share2.now a.share3.now) a.kinds.now (lists a.received1.now a.received2.now a.received3.now a.controller.now)
-    in
-    left_readable a.file.now a.words.now s a.out.now c.session-answer.result _ _ c.session-answer.ensures
+    left_readable a.file.now a.words.now _ a.out.now c.session-answer.result _ _ c.session-answer.ensures
 
 pub returns-clause-printed : goal.returns-clause-printed
 returns-clause-printed c =
     let a = c.args in
-    let s : State =
-    state (tables a.share1.now a.share2.now a.share3.now) a.kinds.now (lists a.received1.now a.received2.now a.received3.now a.controller.now)
-    in
     let d = c.report in
-    run-put a.file.now a.words.now s a.out.now c.session-answer.result _ _ c.if-file-gt-BYTES.false c.session-answer.ensures (d.ensures.0, d.ensures.1)
+    run-put a.file.now a.words.now _ a.out.now c.session-answer.result _ _ c.if-file-gt-BYTES.false c.session-answer.ensures (d.ensures.0, d.ensures.1)

@@ -9,7 +9,7 @@ use Rattle.session.specs.Contents.{Bodies}
 use Rattle.session.specs.Session.{State, state, answer, outcome}
 use Rattle.session.proofs.Laws.Words.{front}
 use Rattle.session.proofs.Laws.Contents.{accepted, bodies}
-use Rattle.session.proofs.Laws.Session.{session-refused, words_fit, session-done}
+use Rattle.session.proofs.Laws.Session.{session-refused, words_lent, session-done}
 use Rattle.session.proofs.session.session.Goals as goal
 
 pub returns-then-number-ne0 : goal.returns-then-number-ne0
@@ -23,30 +23,17 @@ returns-then-number-ne0 c =
     ∙ sym (session-refused a.file.now a.words.now s (λ e. c.if-number-ne0.true (number ∙ e)))
 
 pub decode-requires : goal.decode-requires
-decode-requires c =
-    let a = c.args in
-    let s : State =
-    state (tables a.share1.now a.share2.now a.share3.now) a.kinds.now (lists a.received1.now a.received2.now a.received3.now a.controller.now)
-    in
-    words_fit a.file.now a.words.now s (sym c.refusal-number.ensures ∙ c.if-number-ne0.false)
+decode-requires c = words_lent c.args.file.now c.args.words.now _ (sym c.refusal-number.ensures ∙ c.if-number-ne0.false)
 
 pub slice_bounds-run_words-end : goal.slice_bounds-run_words-end
 slice_bounds-run_words-end c =
-    let a = c.args in
-    let s : State =
-    state (tables a.share1.now a.share2.now a.share3.now) a.kinds.now (lists a.received1.now a.received2.now a.received3.now a.controller.now)
-    in
-    omega (arith, c.decode.auto.words, words_fit a.file.now a.words.now s (sym c.refusal-number.ensures ∙ c.if-number-ne0.false))
+    let fit = words_lent c.args.file.now c.args.words.now _ (sym c.refusal-number.ensures ∙ c.if-number-ne0.false) in
+    omega (arith, c.decode.auto.words, fit)
 
 pub slice_bounds-run_words-end-2 : goal.slice_bounds-run_words-end-2
 slice_bounds-run_words-end-2 c =
-    let a = c.args in
-    let s : State =
-    state (tables a.share1.now a.share2.now a.share3.now) a.kinds.now (lists a.received1.now a.received2.now a.received3.now a.controller.now)
-    in
-    let f = a.file.now in
-    let fit = words_fit f a.words.now s (sym c.refusal-number.ensures ∙ c.if-number-ne0.false) in
-    sym (length-take-le (length f / 4) c.decode.new.words (omega (arith, c.decode.auto.words, fit)))
+    let fit = words_lent c.args.file.now c.args.words.now _ (sym c.refusal-number.ensures ∙ c.if-number-ne0.false) in
+    sym (length-take-le (length c.args.file.now / 4) c.decode.new.words (omega (arith, c.decode.auto.words, fit)))
 
 pub run_words-requires : goal.run_words-requires
 run_words-requires c =
