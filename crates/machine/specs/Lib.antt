@@ -2,6 +2,7 @@
 pub mod Table
 pub mod Lent
 pub mod Verdict
+pub mod Refusal
 pub mod Steps
 pub mod Command
 pub mod Accept

@@ -10,6 +10,7 @@ pub mod given;
 pub mod judge;
 pub mod lent;
 pub mod play;
+pub mod refusal;
 pub mod row;
 pub mod run;
 mod step;
