@@ -14,9 +14,10 @@ pub mod Bits
 pub mod Equal
 pub mod Open
 pub mod Below
-pub mod Outcome
 pub mod Contents
 pub mod Counts
+pub mod Outcome
+pub mod Lent
 pub mod Blind
 pub mod WordForm
 pub mod Worked

@@ -1,11 +1,9 @@
 -- Tapes, received lists, the place record and draws. (01, 'Handles, tapes and places')
-use Rattle.std.specs.Prelude.{ℕ, zero, suc, ◌+◌, ◌-◌, Bool, cond, ◌&&◌, List, [], ◌∷◌, ◌++◌, length, take, drop, nat_le, nat_lt, slice_index}
+use Rattle.std.specs.Prelude.{ℕ, zero, suc, ◌+◌, ◌-◌, Bool, cond, ◌&&◌, List, [], ◌∷◌, ◌++◌, length, take, drop, nat_le, slice_index, Option, Some, None}
 use Rattle.protocols.specs.declared.place.Party.{Party}
 use Rattle.protocols.specs.declared.place.Party.TheVariants.{Provider, One, Two, Three}
 use Rattle.protocols.specs.declared.place.Drawn.{Drawn}
 use Rattle.protocols.specs.declared.place.Place.{Place}
-use Rattle.protocols.specs.declared.place.Draw.{Draw}
-use Rattle.protocols.specs.declared.place.Draw.TheVariants.{Word, Spent}
 use Rattle.protocols.specs.declared.shares.Shares.{Shares}
 use Rattle.protocols.specs.Shares.{Miner, one, two, three}
 
@@ -127,9 +125,9 @@ with_count One k n = counts n.provider k n.two n.three
 with_count Two k n = counts n.provider n.one k n.three
 with_count Three k n = counts n.provider n.one n.two k
 
--- with one more word drawn from one tape
-abbrev pub moved : Party → Place → Place
-moved i p = record { handles = p.handles; inputs = p.inputs; drawn = with_count i (count i p.drawn + 1) p.drawn; received = p.received }
+-- with k more words drawn from one tape
+abbrev pub moved : ℕ → Party → Place → Place
+moved k i p = record { handles = p.handles; inputs = p.inputs; drawn = with_count i (count i p.drawn + k) p.drawn; received = p.received }
 
 -- 01, 'When a call is turned down': number 12, 'any tape has fewer words left than the command draws'; 0 is not turned down
 abbrev pub tape_spent : ℕ
@@ -139,12 +137,13 @@ abbrev pub tape_number : Bool → ℕ
 tape_number enough = cond enough 0 tape_spent
 
 -- the case of a draw for each number, with its values: 'either the word with the moved place, or that the tape is spent'
-abbrev pub draw_case : ℕ → ℕ → Place → Draw
-draw_case zero x q = Word x q
-draw_case (suc r) x q = Spent
+abbrev pub draw_case : {T : Type 0} → ℕ → T → Place → Option (T × Place)
+draw_case zero x q = Some (x, q)
+draw_case (suc r) x q = None
 
-abbrev pub draw : Party → List ℕ → Place → Draw
-draw i l p = draw_case (tape_number (nat_lt (count i p.drawn) (length l))) (slice_index l (count i p.drawn)) (moved i p)
+-- the next k words of a party's tape
+unfoldable pub draw : ℕ → Party → List ℕ → Place → Option (List ℕ × Place)
+draw k i l p = draw_case (tape_number (nat_le k (length l - count i p.drawn))) (take k (drop (count i p.drawn) l)) (moved k i p)
 
 -- a test of every party
 abbrev pub every : (Party → Bool) → Bool

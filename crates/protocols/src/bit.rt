@@ -2,16 +2,17 @@
 ghost use Rattle.std.specs.Prelude.{◌≡◌, []};
 ghost use Rattle.protocols.specs.Word.{modulus, bit_at, low, sub, choose};
 ghost use Rattle.protocols.specs.Shares.{shares};
-ghost use Rattle.protocols.specs.Place.{tapes, lists};
 ghost use Rattle.protocols.specs.Protocol.{perform};
-ghost use Rattle.protocols.specs.Outcome.{delivered, delivery};
+ghost use Rattle.protocols.specs.Place.{tapes, lists};
+ghost use Rattle.protocols.specs.Outcome.{outcome, delivered, delivery};
+ghost use Rattle.protocols.specs.Lent.{tapes_of, lists_of, Same};
 ghost use Rattle.protocols.specs.Bit as spec;
 
-use super::draws::Triple;
-use super::outcome::Outcome;
-use super::place::Place;
+use super::lent::{Lists, Tapes};
+use super::outcome::{Done, Shortage};
+use super::place::{Party, Place};
 use super::shares::Shares;
-use super::{draws, list, ring};
+use super::{list, ring};
 
 // The bit at a position; above the word every bit is 0.
 fn bit_at(x: u32, j: u32) -> u32
@@ -58,22 +59,22 @@ fn converted(s: u32, a: u32, b: u32) -> Shares
     }
 }
 
-// Bit j of a bit word as a ring value.
-pub fn bit(
+// On miner 1's tape alone, for miners 2 and 3 alone.
+pub(crate) fn convert(
     u: Shares,
     j: u32,
     place: Place,
     tape1: &[u32],
     list2: &mut [u32],
     list3: &mut [u32],
-) -> Outcome
-    ensures { delivered result (lists [] list2.new list3.new []) ≡ delivery place (perform (spec.bit (modulus 5) j) u place (tapes [] tape1.now [] [])) (lists [] list2.old list3.old []) }
+) -> Result<Done, Shortage>
+    ensures { delivered (outcome place result) (lists [] list2.new list3.new []) ≡ delivery place (perform (spec.bit (modulus 5) j) u place (tapes [] tape1.now [] [])) (lists [] list2.old list3.old []) }
 {
-    let Triple::Words(word_b, m12, word_b12, next) = draws::draw_triple(place, tape1) else {
-        return Outcome::refused(12, place);
+    let Some((&[word_b, m12, word_b12], next)) = place.draw::<3>(Party::One, tape1) else {
+        return Err(Shortage::TapeSpent);
     };
-    if !list::have_room(0, 3, 3, &[], list2, list3) {
-        return Outcome::refused(13, place);
+    if (list2.len() < 3) | (list3.len() < 3) {
+        return Err(Shortage::ListFull);
     }
     let v = bits_at(u, j);
     let b = low_bit(word_b);
@@ -84,9 +85,22 @@ pub fn bit(
     let s32 = b13 ^ v.three;
     list::put(list2, 0, &[m12, b12, s32]);
     list::put(list3, 0, &[m13, b13, s23]);
-    Outcome {
-        number: 0,
+    Ok(Done {
         shares: converted(s23 ^ s32, m12, m13),
         place: next,
-    }
+    })
+}
+
+// Bit j of a bit word as a ring value.
+pub fn bit(
+    u: Shares,
+    j: u32,
+    place: Place,
+    tapes: &Tapes,
+    lists: &mut Lists,
+) -> Result<Done, Shortage>
+    ensures same { Same lists.old lists.new }
+    ensures done { delivered (outcome place result) (lists_of lists.new) ≡ delivery place (perform (spec.bit (modulus 5) j) u place (tapes_of tapes.now)) (lists_of lists.old) }
+{
+    convert(u, j, place, tapes.one, lists.two, lists.three)
 }

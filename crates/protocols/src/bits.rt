@@ -1,19 +1,20 @@
 // Bits.
 ghost use Rattle.std.specs.Prelude.{◌≡◌, ◌+◌, ◌*◌, ◌<◌, ◌≤◌, true, [], ◌∷◌, length};
-ghost use Rattle.std.proofs.lemmas.List.Edits.{sets};
 ghost use Rattle.protocols.specs.Word.{modulus, width};
 ghost use Rattle.protocols.specs.Place.{tapes, lists, enough, to_next, to_two_three, ◌followed_by◌};
 ghost use Rattle.protocols.specs.Protocol.{perform};
-ghost use Rattle.protocols.specs.Outcome.{delivered, delivery, fronts};
+ghost use Rattle.protocols.specs.Outcome.{outcome, delivered, delivery, fronts, puts};
+ghost use Rattle.protocols.specs.Counts.{received};
+ghost use Rattle.protocols.specs.Lent.{tapes_of, lists_of, Same};
 ghost use Rattle.protocols.specs.Masked.{masked};
 ghost use Rattle.protocols.specs.WordForm as word;
 ghost use Rattle.protocols.specs.Bits as spec;
 
-use super::draws::{Pairs, Triple};
-use super::outcome::Outcome;
-use super::place::Place;
+use super::lent::{Lists, Tapes};
+use super::outcome::{Done, Shortage};
+use super::place::{Party, Place};
 use super::shares::Shares;
-use super::{draws, list, masked, ring};
+use super::{list, masked, ring};
 
 // What the dealing leaves: shares of p and s, and the words that miners 2 and 3 exchange.
 #[derive(Clone, Copy)]
@@ -159,46 +160,31 @@ fn joined(h: Held) -> Shares
 }
 
 // The dealing, with the masks of the first round sent on. (bar2, bar3 are document 01's R2, R3.)
-fn deal(
-    u: Shares,
-    r: u32,
-    r2: u32,
-    bar2: u32,
-    q: Shares,
-    t: Shares,
-    list1: &mut [u32],
-    list2: &mut [u32],
-    list3: &mut [u32],
-) -> Held
-    requires { (2 ≤ length list1.old) × (5 ≤ length list2.old) × (5 ≤ length list3.old) }
-    ensures { let w = tapes [] (r ∷ r2 ∷ bar2 ∷ []) [] [] in let d = (spec.deal 5).result u w in (result ≡ spec.begun d q t) × (lists list1.new list2.new list3.new [] ≡ fronts (lists list1.old list2.old list3.old []) ((spec.deal 5).received u w followed_by to_next q followed_by to_next t followed_by to_two_three d.v3 d.v2)) }
+fn deal(u: Shares, words: &[u32; 3], q: Shares, t: Shares, lists: &mut Lists) -> Held
+    requires { (2 ≤ length lists.old.one.now) × (5 ≤ length lists.old.two.now) × (5 ≤ length lists.old.three.now) }
+    ensures same { Same lists.old lists.new }
+    ensures dealt { let w = tapes [] words.now [] [] in let d = (spec.deal 5).result u w in (result ≡ spec.begun d q t) × (lists_of lists.new ≡ fronts (lists_of lists.old) ((spec.deal 5).received u w followed_by to_next q followed_by to_next t followed_by to_two_three d.v3 d.v2)) }
 {
+    let [r, r2, bar2] = *words;
     let r3 = ring::sub(ring::sub(u.one, r), r2);
     let bar3 = r ^ bar2;
     let dealt = start(ring::add(u.two, r2), ring::add(u.three, r3), bar2, bar3);
-    list::put(list1, 0, &[q.three, t.three]);
-    list::put(list2, 0, &[r2, bar2, q.one, t.one, dealt.v3]);
-    list::put(list3, 0, &[r3, bar3, q.two, t.two, dealt.v2]);
+    list::put(lists.one, 0, &[q.three, t.three]);
+    list::put(lists.two, 0, &[r2, bar2, q.one, t.one, dealt.v3]);
+    list::put(lists.three, 0, &[r3, bar3, q.two, t.two, dealt.v2]);
     begun(dealt, q, t)
 }
 
 // Round k: the masked shares and the masks of the next round sent on, and what the miners then hold.
-fn round(
-    k: u32,
-    held: Held,
-    q: Shares,
-    t: Shares,
-    list1: &mut [u32],
-    list2: &mut [u32],
-    list3: &mut [u32],
-) -> Held
-    requires { (k < 5) × (22 ≤ length list1.old) × (25 ≤ length list2.old) × (25 ≤ length list3.old) }
-    ensures { let p = masked held.p held.q in let s = masked held.s held.t in let w = to_next p followed_by to_next s followed_by to_next q followed_by to_next t in (result ≡ spec.carried (width 5) k p s q t held.base) × (lists list1.new list2.new list3.new [] ≡ lists (sets list1.old (2 + 4 * k) w.one) (sets list2.old (5 + 4 * k) w.two) (sets list3.old (5 + 4 * k) w.three) []) }
+fn round(k: u32, held: Held, q: Shares, t: Shares, lists: &mut Lists) -> Held
+    requires { (k < 5) × (22 ≤ length lists.old.one.now) × (25 ≤ length lists.old.two.now) × (25 ≤ length lists.old.three.now) }
+    ensures same { Same lists.old lists.new }
+    ensures carried { let p = masked held.p held.q in let s = masked held.s held.t in let w = to_next p followed_by to_next s followed_by to_next q followed_by to_next t in (result ≡ spec.carried (width 5) k p s q t held.base) × (lists_of lists.new ≡ puts (received (2 + 4 * k) (5 + 4 * k) (5 + 4 * k) 0) (lists_of lists.old) w) }
 {
     let p = masked::masked(held.p, held.q);
     let s = masked::masked(held.s, held.t);
     let sent = 4 * k as usize;
-    list::pass_four(list1, list2, list3, 2 + sent, 5 + sent, p, s, q, t);
+    lists.pass(2 + sent, 5 + sent, &[p, s, q, t]);
     carried(k, p, s, q, t, held.base)
 }
 
@@ -206,58 +192,44 @@ fn round(
 pub(crate) fn rounds(
     u: Shares,
     place: Place,
-    tape1: &[u32],
-    tape2: &[u32],
-    tape3: &[u32],
-    list1: &mut [u32],
-    list2: &mut [u32],
-    list3: &mut [u32],
-) -> Outcome
-    requires { (enough (spec.bits 5).draws place (tapes [] tape1.now tape2.now tape3.now) ≡ true) × (22 ≤ length list1.old) × (25 ≤ length list2.old) × (25 ≤ length list3.old) }
-    ensures { delivered result (lists list1.new list2.new list3.new []) ≡ delivery place (perform (spec.bits 5) u place (tapes [] tape1.now tape2.now tape3.now)) (lists list1.old list2.old list3.old []) }
+    tapes: &Tapes,
+    lists: &mut Lists,
+) -> Result<Done, Shortage>
+    requires { (enough (spec.bits 5).draws place (tapes_of tapes.now) ≡ true) × (22 ≤ length lists.old.one.now) × (25 ≤ length lists.old.two.now) × (25 ≤ length lists.old.three.now) }
+    ensures same { Same lists.old lists.new }
+    ensures done { delivered (outcome place result) (lists_of lists.new) ≡ delivery place (perform (spec.bits 5) u place (tapes_of tapes.now)) (lists_of lists.old) }
 {
-    let Triple::Words(r, r2, bar2, dealt_at) = draws::draw_triple(place, tape1) else {
-        return Outcome::refused(12, place);
+    let Some((words, dealt_at)) = place.draw::<3>(Party::One, tapes.one) else {
+        return Err(Shortage::TapeSpent);
     };
-    let Pairs::Words(q, t, begun_at) = draws::draw_pairs(dealt_at, tape1, tape2, tape3) else {
-        return Outcome::refused(12, place);
+    let Some(((q, t), begun_at)) = dealt_at.draw_pairs(tapes) else {
+        return Err(Shortage::TapeSpent);
     };
-    let mut held = deal(u, r, r2, bar2, q, t, list1, list2, list3);
+    let mut held = deal(u, words, q, t, lists);
     let mut at = begun_at;
-    let mut k: u32 = 0;
-    while k < 5 {
-        let Pairs::Words(q, t, next) = draws::draw_pairs(at, tape1, tape2, tape3) else {
-            return Outcome::refused(12, place);
+    for k in 0..5 {
+        let Some(((q, t), next)) = at.draw_pairs(tapes) else {
+            return Err(Shortage::TapeSpent);
         };
-        held = round(k, held, q, t, list1, list2, list3);
+        held = round(k, held, q, t, lists);
         at = next;
-        k += 1;
     }
-    Outcome {
-        number: 0,
+    Ok(Done {
         shares: joined(held),
         place: at,
-    }
+    })
 }
 
 // The bits of a ring value, as a bit word.
-pub fn bits(
-    u: Shares,
-    place: Place,
-    tape1: &[u32],
-    tape2: &[u32],
-    tape3: &[u32],
-    list1: &mut [u32],
-    list2: &mut [u32],
-    list3: &mut [u32],
-) -> Outcome
-    ensures { delivered result (lists list1.new list2.new list3.new []) ≡ delivery place (perform (spec.bits 5) u place (tapes [] tape1.now tape2.now tape3.now)) (lists list1.old list2.old list3.old []) }
+pub fn bits(u: Shares, place: Place, tapes: &Tapes, lists: &mut Lists) -> Result<Done, Shortage>
+    ensures same { Same lists.old lists.new }
+    ensures done { delivered (outcome place result) (lists_of lists.new) ≡ delivery place (perform (spec.bits 5) u place (tapes_of tapes.now)) (lists_of lists.old) }
 {
-    if !draws::are_enough(place, 15, 12, 12, tape1, tape2, tape3) {
-        return Outcome::refused(12, place);
+    if !tapes.have(place, 15, 12, 12) {
+        return Err(Shortage::TapeSpent);
     }
-    if !list::have_room(22, 25, 25, list1, list2, list3) {
-        return Outcome::refused(13, place);
+    if !lists.have_room(22, 25, 25, 0) {
+        return Err(Shortage::ListFull);
     }
-    rounds(u, place, tape1, tape2, tape3, list1, list2, list3)
+    rounds(u, place, tapes, lists)
 }

@@ -1,20 +1,21 @@
 // Equal.
 ghost use Rattle.std.specs.Prelude.{◌≡◌, ◌+◌, ◌*◌, ◌<◌, ◌≤◌, true, [], ◌∷◌, length};
-ghost use Rattle.std.proofs.lemmas.List.Edits.{sets};
 ghost use Rattle.protocols.specs.Word.{modulus, width};
 ghost use Rattle.protocols.specs.Shares.{operands};
 ghost use Rattle.protocols.specs.Place.{tapes, lists, enough, to_next, ◌followed_by◌};
 ghost use Rattle.protocols.specs.Protocol.{perform};
-ghost use Rattle.protocols.specs.Outcome.{delivered, delivery, fronts};
+ghost use Rattle.protocols.specs.Outcome.{outcome, delivered, delivery, fronts, puts};
+ghost use Rattle.protocols.specs.Counts.{received};
+ghost use Rattle.protocols.specs.Lent.{tapes_of, lists_of, Same};
 ghost use Rattle.protocols.specs.Masked.{masked};
 ghost use Rattle.protocols.specs.WordForm as word;
 ghost use Rattle.protocols.specs.Equal as spec;
 
-use super::draws::Each;
-use super::outcome::Outcome;
-use super::place::{Draw, Party, Place};
+use super::lent::{Lists, Tapes};
+use super::outcome::{Done, Shortage};
+use super::place::{Party, Place};
 use super::shares::Shares;
-use super::{bit, draws, list, local, masked, ring};
+use super::{bit, list, local, masked, ring};
 
 // What the miners hold before a round: p, and its masks q.
 #[derive(Clone, Copy)]
@@ -89,25 +90,17 @@ fn compared(d: Shares, r2: u32, r3: u32) -> Shares
 }
 
 // The comparison, with the masks of the first round sent on.
-fn compare(
-    u: Shares,
-    v: Shares,
-    r2: u32,
-    q: Shares,
-    list1: &mut [u32],
-    list2: &mut [u32],
-    list3: &mut [u32],
-) -> Folding
-    requires { (1 ≤ length list1.old) × (2 ≤ length list2.old) × (2 ≤ length list3.old) }
-    ensures { let w = tapes [] (r2 ∷ []) [] [] in (result.p ≡ (spec.compare 5).result (operands u v) w) × (result.q ≡ q) × (lists list1.new list2.new list3.new [] ≡ fronts (lists list1.old list2.old list3.old []) ((spec.compare 5).received (operands u v) w followed_by to_next q)) }
+fn compare(u: Shares, v: Shares, words: &[u32; 1], q: Shares, lists: &mut Lists) -> Folding
+    requires { (1 ≤ length lists.old.one.now) × (2 ≤ length lists.old.two.now) × (2 ≤ length lists.old.three.now) }
+    ensures same { Same lists.old lists.new }
+    ensures compared { let w = tapes [] words.now [] [] in (result.p ≡ (spec.compare 5).result (operands u v) w) × (result.q ≡ q) × (lists_of lists.new ≡ fronts (lists_of lists.old) ((spec.compare 5).received (operands u v) w followed_by to_next q)) }
 {
+    let [r2] = *words;
     let d = local::difference(u, v);
     let r3 = ring::sub(d.one, r2);
-    list1[0] = q.three;
-    list2[0] = r2;
-    list2[1] = q.one;
-    list3[0] = r3;
-    list3[1] = q.two;
+    list::put(lists.one, 0, &[q.three]);
+    list::put(lists.two, 0, &[r2, q.one]);
+    list::put(lists.three, 0, &[r3, q.two]);
     Folding {
         p: compared(d, r2, r3),
         q,
@@ -115,25 +108,14 @@ fn compare(
 }
 
 // Round k: the masked shares and the masks of the next round sent on, and what the miners then hold.
-fn round(
-    k: u32,
-    held: Folding,
-    q: Shares,
-    list1: &mut [u32],
-    list2: &mut [u32],
-    list3: &mut [u32],
-) -> Folding
-    requires { (k < 5) × (11 ≤ length list1.old) × (15 ≤ length list2.old) × (15 ≤ length list3.old) }
-    ensures { let p = masked held.p held.q in let w = to_next p followed_by to_next q in (result ≡ spec.folded (width 5) k p q) × (lists list1.new list2.new list3.new [] ≡ lists (sets list1.old (1 + 2 * k) w.one) (sets list2.old (2 + 2 * k) w.two) (sets list3.old (2 + 2 * k) w.three) []) }
+fn round(k: u32, held: Folding, q: Shares, lists: &mut Lists) -> Folding
+    requires { (k < 5) × (11 ≤ length lists.old.one.now) × (15 ≤ length lists.old.two.now) × (15 ≤ length lists.old.three.now) }
+    ensures same { Same lists.old lists.new }
+    ensures folded { let p = masked held.p held.q in let w = to_next p followed_by to_next q in (result ≡ spec.folded (width 5) k p q) × (lists_of lists.new ≡ puts (received (1 + 2 * k) (2 + 2 * k) (2 + 2 * k) 0) (lists_of lists.old) w) }
 {
     let p = masked::masked(held.p, held.q);
     let sent = 2 * k as usize;
-    list1[1 + sent] = p.three;
-    list1[2 + sent] = q.three;
-    list2[2 + sent] = p.one;
-    list2[3 + sent] = q.one;
-    list3[2 + sent] = p.two;
-    list3[3 + sent] = q.two;
+    lists.pass(1 + sent, 2 + sent, &[p, q]);
     folded(k, p, q)
 }
 
@@ -142,34 +124,36 @@ fn folds(
     u: Shares,
     v: Shares,
     place: Place,
-    tape1: &[u32],
-    tape2: &[u32],
-    tape3: &[u32],
-    list1: &mut [u32],
-    list2: &mut [u32],
-    list3: &mut [u32],
-) -> Outcome
-    requires { (enough (spec.equal 5).draws place (tapes [] tape1.now tape2.now tape3.now) ≡ true) × (11 ≤ length list1.old) × (15 ≤ length list2.old) × (15 ≤ length list3.old) }
-    ensures { delivered result (lists list1.new list2.new list3.new []) ≡ delivery place (perform (spec.equal 5) (operands u v) place (tapes [] tape1.now tape2.now tape3.now)) (lists list1.old list2.old list3.old []) }
+    tapes: &Tapes,
+    lists: &mut Lists,
+) -> Result<Done, Shortage>
+    requires { (enough (spec.equal 5).draws place (tapes_of tapes.now) ≡ true) × (11 ≤ length lists.old.one.now) × (15 ≤ length lists.old.two.now) × (15 ≤ length lists.old.three.now) }
+    ensures same { Same lists.old lists.new }
+    ensures done { delivered (outcome place result) (lists_of lists.new) ≡ delivery place (perform (spec.equal 5) (operands u v) place (tapes_of tapes.now)) (lists_of lists.old) }
 {
-    let Draw::Word(r2, compared_at) = place.draw(Party::One, tape1) else {
-        return Outcome::refused(12, place);
+    let Some((words, compared_at)) = place.draw::<1>(Party::One, tapes.one) else {
+        return Err(Shortage::TapeSpent);
     };
-    let Each::Words(q, begun_at) = draws::draw_each(compared_at, tape1, tape2, tape3) else {
-        return Outcome::refused(12, place);
+    let Some((q, begun_at)) = compared_at.draw_each(tapes) else {
+        return Err(Shortage::TapeSpent);
     };
-    let mut held = compare(u, v, r2, q, list1, list2, list3);
+    let mut held = compare(u, v, words, q, lists);
     let mut at = begun_at;
-    let mut k: u32 = 0;
-    while k < 5 {
-        let Each::Words(q, next) = draws::draw_each(at, tape1, tape2, tape3) else {
-            return Outcome::refused(12, place);
+    for k in 0..5 {
+        let Some((q, next)) = at.draw_each(tapes) else {
+            return Err(Shortage::TapeSpent);
         };
-        held = round(k, held, q, list1, list2, list3);
+        held = round(k, held, q, lists);
         at = next;
-        k += 1;
     }
-    bit::bit(held.p, 0, at, tape1, &mut list2[12..], &mut list3[12..])
+    bit::convert(
+        held.p,
+        0,
+        at,
+        tapes.one,
+        &mut lists.two[12..],
+        &mut lists.three[12..],
+    )
 }
 
 // 1 if u and v are equal, else 0.
@@ -177,20 +161,17 @@ pub fn equal(
     u: Shares,
     v: Shares,
     place: Place,
-    tape1: &[u32],
-    tape2: &[u32],
-    tape3: &[u32],
-    list1: &mut [u32],
-    list2: &mut [u32],
-    list3: &mut [u32],
-) -> Outcome
-    ensures { delivered result (lists list1.new list2.new list3.new []) ≡ delivery place (perform (spec.equal 5) (operands u v) place (tapes [] tape1.now tape2.now tape3.now)) (lists list1.old list2.old list3.old []) }
+    tapes: &Tapes,
+    lists: &mut Lists,
+) -> Result<Done, Shortage>
+    ensures same { Same lists.old lists.new }
+    ensures done { delivered (outcome place result) (lists_of lists.new) ≡ delivery place (perform (spec.equal 5) (operands u v) place (tapes_of tapes.now)) (lists_of lists.old) }
 {
-    if !draws::are_enough(place, 10, 6, 6, tape1, tape2, tape3) {
-        return Outcome::refused(12, place);
+    if !tapes.have(place, 10, 6, 6) {
+        return Err(Shortage::TapeSpent);
     }
-    if !list::have_room(11, 15, 15, list1, list2, list3) {
-        return Outcome::refused(13, place);
+    if !lists.have_room(11, 15, 15, 0) {
+        return Err(Shortage::ListFull);
     }
-    folds(u, v, place, tape1, tape2, tape3, list1, list2, list3)
+    folds(u, v, place, tapes, lists)
 }

@@ -8,6 +8,7 @@ pub mod bit;
 pub mod bits;
 pub mod draws;
 pub mod equal;
+pub mod lent;
 mod list;
 pub mod local;
 pub mod masked;

@@ -1,17 +1,17 @@
 // Multiply.
-ghost use Rattle.std.specs.Prelude.{◌≡◌, []};
+ghost use Rattle.std.specs.Prelude.{◌≡◌};
 ghost use Rattle.protocols.specs.Word.{modulus};
 ghost use Rattle.protocols.specs.Shares.{operands};
-ghost use Rattle.protocols.specs.Place.{tapes, lists};
 ghost use Rattle.protocols.specs.Protocol.{perform};
-ghost use Rattle.protocols.specs.Outcome.{delivered, delivery};
+ghost use Rattle.protocols.specs.Outcome.{outcome, delivered, delivery};
+ghost use Rattle.protocols.specs.Lent.{tapes_of, lists_of, Same};
 ghost use Rattle.protocols.specs.Multiply as spec;
 
-use super::draws::Pairs;
-use super::outcome::Outcome;
+use super::lent::{Lists, Tapes};
+use super::outcome::{Done, Shortage};
 use super::place::Place;
 use super::shares::Shares;
-use super::{draws, list, reshare, ring};
+use super::{reshare, ring};
 
 // A miner's share of the product, from its own masked shares u, v and the previous miner's x, y.
 fn product_share(u: u32, v: u32, x: u32, y: u32) -> u32
@@ -35,27 +35,23 @@ pub fn multiply(
     u: Shares,
     v: Shares,
     place: Place,
-    tape1: &[u32],
-    tape2: &[u32],
-    tape3: &[u32],
-    list1: &mut [u32],
-    list2: &mut [u32],
-    list3: &mut [u32],
-) -> Outcome
-    ensures { delivered result (lists list1.new list2.new list3.new []) ≡ delivery place (perform (spec.multiply (modulus 5)) (operands u v) place (tapes [] tape1.now tape2.now tape3.now)) (lists list1.old list2.old list3.old []) }
+    tapes: &Tapes,
+    lists: &mut Lists,
+) -> Result<Done, Shortage>
+    ensures same { Same lists.old lists.new }
+    ensures done { delivered (outcome place result) (lists_of lists.new) ≡ delivery place (perform (spec.multiply (modulus 5)) (operands u v) place (tapes_of tapes.now)) (lists_of lists.old) }
 {
-    let Pairs::Words(r, s, next) = draws::draw_pairs(place, tape1, tape2, tape3) else {
-        return Outcome::refused(12, place);
+    let Some(((r, s), next)) = place.draw_pairs(tapes) else {
+        return Err(Shortage::TapeSpent);
     };
-    if !list::have_room(4, 4, 4, list1, list2, list3) {
-        return Outcome::refused(13, place);
+    if !lists.have_room(4, 4, 4, 0) {
+        return Err(Shortage::ListFull);
     }
     let x = reshare::fresh(u, r);
     let y = reshare::fresh(v, s);
-    list::pass_four(list1, list2, list3, 0, 0, r, s, x, y);
-    Outcome {
-        number: 0,
+    lists.pass(0, 0, &[r, s, x, y]);
+    Ok(Done {
         shares: product(x, y),
         place: next,
-    }
+    })
 }

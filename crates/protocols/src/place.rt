@@ -1,9 +1,10 @@
 // The place record, and draws from a tape.
 ghost use Rattle.std.specs.Prelude.{◌≡◌};
 ghost use Rattle.protocols.specs.Place.{count, with_count, draw};
+ghost use Rattle.protocols.specs.Lent.{drawn};
 
 // Who draws: the provider, or a miner.
-#[derive(Clone, Copy)]
+#[derive(Clone, Copy, PartialEq, Eq)]
 pub enum Party {
     Provider,
     One,
@@ -13,7 +14,7 @@ pub enum Party {
 
 // Words drawn from each tape.
 #[repr(C)]
-#[derive(Clone, Copy)]
+#[derive(Clone, Copy, Default)]
 pub struct Drawn {
     pub provider: usize,
     pub one: usize,
@@ -23,7 +24,7 @@ pub struct Drawn {
 
 // Words in each received list.
 #[repr(C)]
-#[derive(Clone, Copy)]
+#[derive(Clone, Copy, Default)]
 pub struct Received {
     pub one: usize,
     pub two: usize,
@@ -33,19 +34,12 @@ pub struct Received {
 
 // The place record: filled handles, inputs used, words drawn, words received.
 #[repr(C)]
-#[derive(Clone, Copy)]
+#[derive(Clone, Copy, Default)]
 pub struct Place {
     pub handles: usize,
     pub inputs: usize,
     pub drawn: Drawn,
     pub received: Received,
-}
-
-// The word at the place with the moved place, or a spent tape.
-#[derive(Clone, Copy)]
-pub enum Draw {
-    Word(u32, Place),
-    Spent,
 }
 
 impl Drawn {
@@ -76,25 +70,19 @@ impl Drawn {
 }
 
 impl Place {
-    // The next word of a party's tape.
-    pub fn draw(self, party: Party, tape: &[u32]) -> Draw
-        ensures { result ≡ draw party tape.now self }
+    // The next N words of a party's tape with the moved place, or nothing where the tape is spent.
+    pub fn draw<'a, const N: usize>(
+        self,
+        party: Party,
+        tape: &'a [u32],
+    ) -> Option<(&'a [u32; N], Place)>
+        ensures { drawn result ≡ draw N party tape.now self }
     {
-        let drawn = self.drawn;
-        let at = drawn.of(party);
-        if tape.len() <= at {
-            return Draw::Spent;
-        }
-        let next = drawn.with(party, at + 1);
-        let received = self.received;
-        Draw::Word(
-            tape[at],
-            Place {
-                handles: self.handles,
-                inputs: self.inputs,
-                drawn: next,
-                received,
-            },
-        )
+        let at = self.drawn.of(party);
+        let Some(words) = tape.get(at..).unwrap_or(&[]).first_chunk::<N>() else {
+            return None;
+        };
+        let drawn = self.drawn.with(party, at + N);
+        Some((words, Place { drawn, ..self }))
     }
 }

@@ -10,8 +10,11 @@ use Rattle.protocols.specs.declared.shares.Shares.{Shares}
 use Rattle.protocols.specs.Shares.{one, two, three}
 use Rattle.protocols.specs.Place.{Tapes, Lists, lists, Receiver, miner, controller, list, advance, enough, block, silence, ◌followed_by◌}
 use Rattle.protocols.specs.Protocol.{Protocol, Answer, done, spent, perform}
-use Rattle.protocols.specs.declared.outcome.Outcome.{Outcome}
-use Rattle.protocols.specs.Outcome.{Delivered, finished, refused, delivered, delivery, room, fronts}
+use Rattle.std.specs.Prelude.{Result, Ok, Err}
+use Rattle.protocols.specs.declared.outcome.Done.{Done}
+use Rattle.protocols.specs.declared.outcome.Shortage.{Shortage}
+use Rattle.protocols.specs.declared.outcome.Shortage.TheVariants.{TapeSpent, ListFull}
+use Rattle.protocols.specs.Outcome.{Outcome, outcome, Delivered, finished, refused, delivered, delivery, room, fronts, puts}
 use Rattle.protocols.specs.Counts.{received, due}
 use Rattle.protocols.specs.Claims.{Delivers}
 use Rattle.protocols.proofs.Laws.Puts.{sets_behind}
@@ -50,12 +53,6 @@ due_fits a b c l h controller = omega arith
 
 -- ---- words behind words
 
--- after the counts k of each list
-abbrev pub puts : Received → Lists → Lists → Lists
-puts k l w =
-    lists (sets l.one k.one w.one) (sets l.two k.two w.two) (sets l.three k.three w.three)
-    (sets l.controller k.controller w.controller)
-
 pub fronts_puts : (l w v : Lists) (k : Received) → ((r : Receiver) → length (list r w) ≡ due r k) → puts k (fronts l w) v ≡ fronts l (w followed_by v)
 fronts_puts l w v k h = λ i.
     lists (sets_behind l.one w.one v.one k.one (sym (h (miner one))) i) (sets_behind l.two w.two v.two k.two (sym (h (miner two))) i)
@@ -93,6 +90,28 @@ not_spent {T = T} f s p t e g A = let z = ap number (rw e at g) in absurd (omega
     number : Answer T → ℕ
     number (done x w q) = 0
     number spent = 1
+
+-- ---- what the code answers, from any place
+
+-- what is done is done from any place
+pub done_anywhere : (p q : Place) (r : Result Done Shortage) {x : Shares} {y : Place} → outcome q r ≡ finished x y → outcome p r ≡ outcome q r
+done_anywhere p q (Ok d) e = refl
+done_anywhere p q (Err TapeSpent) e = let z = ap (λ (o : Outcome). o.number) e in absurd (omega (arith, z))
+done_anywhere p q (Err ListFull) e = let z = ap (λ (o : Outcome). o.number) e in absurd (omega (arith, z))
+
+-- tapes and lists that have enough are not short
+pub not_short : {S : Type 0} (f : Protocol S Shares) (s : S) (p : Place) (t : Tapes) (l₀ l : Lists) → enough f.draws p t ≡ true
+    → ((r : Receiver) → length (list r (f.received s (block f.draws p t))) ≤ length (list r l₀))
+    → (e : Shortage) → delivered (outcome p (Err e)) l ≡ delivery p (perform f s p t) l₀ → (A : Type 0) → A
+unfolding perform
+not_short f s p t l₀ l e h w d A =
+    let is : delivered (outcome p (Err w)) l ≡ delivered (finished (f.result s (block f.draws p t)) (advance p f.draws)) (fronts l₀ (f.received s (block f.draws p t))) =
+    d ∙ rw (e, room_true l₀ (f.received s (block f.draws p t)) h) in
+    go w (ap (λ (x : Delivered). x.outcome.number) is)
+  where
+    go : (w : Shortage) → (outcome p (Err w)).number ≡ 0 → A
+    go TapeSpent z = absurd (omega (arith, z))
+    go ListFull z = absurd (omega (arith, z))
 
 -- ---- what a delivery is
 

@@ -1,5 +1,6 @@
 -- Draws: one word at a time is the same as a block, and a block after a block is one block.
-use Rattle.std.proofs.Common.{◌≡◌, ℕ, zero, suc, ◌+◌, ◌-◌, ◌<◌, ◌≤◌, Bool, true, false, ◌&&◌, ltb, leb, List, [], ◌++◌, length, get_or, take, drop, refl, ap, ◌∙◌, append-nil, add-zero, add_assoc, arith, drop_of_length-le, length-take-le, get_or-drop, take_all, get_or-take, take-take, drop-drop, take-add, drop_at, ltb-false, ltb-true, le-leb, leb-false, leb-true}
+use Rattle.std.specs.Prelude.{Option, Some, None}
+use Rattle.std.proofs.Common.{◌≡◌, ℕ, zero, suc, ◌+◌, ◌-◌, ◌<◌, ◌≤◌, Bool, true, false, ◌&&◌, leb, List, [], ◌++◌, length, get_or, take, drop, refl, sym, ap, ◌∙◌, append-nil, add-zero, add_assoc, arith, drop_of_length-le, length-take-le, get_or-drop, take_all, get_or-take, take-take, drop-drop, take-add, drop_at, ltb-false, ltb-true, le-leb, leb-false, leb-true}
 use borrow.Author.Tests.{lt-leb}
 use native.Mathlib.Decide.{dec_le}
 use lib.Seq.{take-nil}
@@ -8,21 +9,11 @@ use Rattle.protocols.specs.declared.place.Party.{Party}
 use Rattle.protocols.specs.declared.place.Party.TheVariants.{Provider, One, Two, Three}
 use Rattle.protocols.specs.declared.place.Drawn.{Drawn}
 use Rattle.protocols.specs.declared.place.Place.{Place}
-use Rattle.protocols.specs.declared.place.Draw.{Draw}
-use Rattle.protocols.specs.declared.place.Draw.TheVariants.{Word, Spent}
 use Rattle.protocols.specs.declared.shares.Shares.{Shares}
-use Rattle.protocols.specs.declared.draws.Each.{Each}
-use Rattle.protocols.specs.declared.draws.Each.TheVariants as each
-use Rattle.protocols.specs.declared.draws.Pairs.{Pairs}
-use Rattle.protocols.specs.declared.draws.Pairs.TheVariants as pairs
-use Rattle.protocols.specs.declared.draws.Triple.{Triple}
-use Rattle.protocols.specs.declared.draws.Triple.TheVariants as triple
-use Rattle.protocols.specs.declared.draws.Double.{Double}
-use Rattle.protocols.specs.declared.draws.Double.TheVariants as double
 use Rattle.protocols.specs.Shares.{shares}
 use Rattle.protocols.proofs.Laws.Blocks.{tapes_ext}
-use Rattle.protocols.specs.Draws.{draw_each, draw_pairs, draw_triple, draw_double}
-use Rattle.protocols.specs.Place.{Tapes, tape, counts, count, plus, cut, rest, advance, draw, every, has, enough, block}
+use Rattle.protocols.specs.Draws.{draw_each, draw_pairs}
+use Rattle.protocols.specs.Place.{Tapes, tape, counts, count, with_count, plus, cut, rest, advance, moved, draw, every, has, enough, block}
 
 -- ---- tests of every party
 
@@ -171,62 +162,94 @@ block-first n d l h = block-word n d 0 l h ∙ ap (λ (k : ℕ). get_or l k 0) (
 -- ---- words drawn one by one make up a block
 
 -- what follows a draw
-abbrev pub after : {A : Type 0} → Draw → (ℕ → Place → A) → A → A
-after (Word x q) k z = k x q
-after Spent k z = z
+abbrev pub after : {T A : Type 0} → Option (T × Place) → (T → Place → A) → A → A
+after (Some (x, q)) k z = k x q
+after None k z = z
 
-abbrev pub after-each : {A : Type 0} → Each → (Shares → Place → A) → A → A
-after-each (each.Words r q) k z = k r q
-after-each each.Spent k z = z
+-- words of one tape alone
+abbrev pub only : Party → ℕ → Drawn
+only i k = with_count i k (counts 0 0 0 0)
 
-abbrev pub after_pairs : {A : Type 0} → Pairs → (Shares → Shares → Place → A) → A → A
-after_pairs (pairs.Words r s q) k z = k r s q
-after_pairs pairs.Spent k z = z
-
-abbrev pub after_triple : {A : Type 0} → Triple → (ℕ → ℕ → ℕ → Place → A) → A → A
-after_triple (triple.Words a b c q) k z = k a b c q
-after_triple triple.Spent k z = z
-
-abbrev pub after_double : {A : Type 0} → Double → (ℕ → ℕ → Place → A) → A → A
-after_double (double.Words a b q) k z = k a b q
-after_double double.Spent k z = z
+-- the first of the words drawn
+abbrev pub first : List ℕ → ℕ
+first w = get_or w 0 0
 
 module _ (p : Place) (t : Tapes) where
-  abbrev pub in_turn : Each
+  others_none : (i : Party) (k : ℕ) → k ≤ length (tape i t) - count i p.drawn → (j : Party) → count j (only i k) ≤ length (tape j t) - count j p.drawn
+  others_none Provider k h Provider = h
+  others_none Provider k h One = omega arith
+  others_none Provider k h Two = omega arith
+  others_none Provider k h Three = omega arith
+  others_none One k h Provider = omega arith
+  others_none One k h One = h
+  others_none One k h Two = omega arith
+  others_none One k h Three = omega arith
+  others_none Two k h Provider = omega arith
+  others_none Two k h One = omega arith
+  others_none Two k h Two = h
+  others_none Two k h Three = omega arith
+  others_none Three k h Provider = omega arith
+  others_none Three k h One = omega arith
+  others_none Three k h Two = omega arith
+  others_none Three k h Three = h
+
+  count_only : (i : Party) (k : ℕ) → count i (only i k) ≡ k
+  count_only Provider k = refl
+  count_only One k = refl
+  count_only Two k = refl
+  count_only Three k = refl
+
+  -- enough of one tape is enough of all, where nothing else is drawn
+  pub enough_only : (i : Party) (k : ℕ) → enough (only i k) p t ≡ leb k (length (tape i t) - count i p.drawn)
+  enough_only i k = go (leb k (length (tape i t) - count i p.drawn)) refl
+    where
+      go : (e : Bool) → leb k (length (tape i t) - count i p.drawn) ≡ e → enough (only i k) p t ≡ leb k (length (tape i t) - count i p.drawn)
+      go true e = enough_true (only i k) p t (others_none i k (leb-true k _ e)) ∙ sym e
+      go false e = enough_false (only i k) p t i (rw (count_only i k) (leb-false k _ e)) ∙ sym e
+
+  pub block_only : (i : Party) (k : ℕ) → tape i (block (only i k) p t) ≡ take k (drop (count i p.drawn) (tape i t))
+  unfolding block
+  block_only Provider k = refl
+  block_only One k = refl
+  block_only Two k = refl
+  block_only Three k = refl
+
+  pub advance_only : (i : Party) (k : ℕ) → advance p (only i k) ≡ moved k i p
+  advance_only Provider k = cc (add-zero p.drawn.one, add-zero p.drawn.two, add-zero p.drawn.three)
+  advance_only One k = cc (add-zero p.drawn.provider, add-zero p.drawn.two, add-zero p.drawn.three)
+  advance_only Two k = cc (add-zero p.drawn.provider, add-zero p.drawn.one, add-zero p.drawn.three)
+  advance_only Three k = cc (add-zero p.drawn.provider, add-zero p.drawn.one, add-zero p.drawn.two)
+
+  abbrev pub in_turn : Option (Shares × Place)
   in_turn =
-      after (draw One t.one p)
-      (λ a p₁. after (draw Two t.two p₁) (λ b p₂. after (draw Three t.three p₂) (λ c p₃. each.Words (shares a b c) p₃) each.Spent) each.Spent)
-      each.Spent
+      after (draw 1 One t.one p)
+      (λ a p₁. after (draw 1 Two t.two p₁) (λ b p₂. after (draw 1 Three t.three p₂) (λ c p₃. Some (shares (first a) (first b) (first c), p₃)) None) None)
+      None
 
   pub each_in_turn : in_turn ≡ draw_each p t
-  unfolding draw_each block
-  each_in_turn = go (ltb p.drawn.one (length t.one)) refl (ltb p.drawn.two (length t.two)) refl (ltb p.drawn.three (length t.three)) refl
+  unfolding draw_each draw block
+  each_in_turn = go (has_word One) refl (has_word Two) refl (has_word Three) refl
     where
-      spent : (i : Party) → length (tape i t) ≤ count i p.drawn → count i (counts 0 1 1 1) ≡ 1 → each.Spent ≡ draw_each p t
-      spent i h e = rw (enough_false (counts 0 1 1 1) p t i (rw e (omega arith)))
+      has_word : Party → Bool
+      has_word i = leb 1 (length (tape i t) - count i p.drawn)
 
-      go : (a : Bool) → ltb p.drawn.one (length t.one) ≡ a → (b : Bool) → ltb p.drawn.two (length t.two) ≡ b
-          → (c : Bool) → ltb p.drawn.three (length t.three) ≡ c → in_turn ≡ draw_each p t
-      go false e b f c g = rw e (spent One (ltb-false _ _ e) refl)
-      go true e false f c g = rw (e, f) (spent Two (ltb-false _ _ f) refl)
-      go true e true f false g = rw (e, f, g) (spent Three (ltb-false _ _ g) refl)
-      go true e true f true g =
-          rw (e, f, g, enough_true (counts 0 1 1 1) p t enough_here)
-          (cc (
-            block-first 1 p.drawn.one t.one (omega arith),
-            block-first 1 p.drawn.two t.two (omega arith),
-            block-first 1 p.drawn.three t.three (omega arith),
-            add-zero p.drawn.provider,
-          ))
+      spent : (i : Party) → has_word i ≡ false → count i (counts 0 1 1 1) ≡ 1 → None ≡ draw_each p t
+      spent i h e = rw (enough_false (counts 0 1 1 1) p t i (rw e (leb-false 1 _ h)))
+
+      go : (a : Bool) → has_word One ≡ a → (b : Bool) → has_word Two ≡ b → (c : Bool) → has_word Three ≡ c → in_turn ≡ draw_each p t
+      go false e b f c g = rw e (spent One e refl)
+      go true e false f c g = rw (e, f) (spent Two f refl)
+      go true e true f false g = rw (e, f, g) (spent Three g refl)
+      go true e true f true g = rw (e, f, g, enough_true (counts 0 1 1 1) p t enough_here) (cc (add-zero p.drawn.provider))
         where
           enough_here : (i : Party) → count i (counts 0 1 1 1) ≤ length (tape i t) - count i p.drawn
           enough_here Provider = omega arith
-          enough_here One = omega (arith, ltb-true p.drawn.one (length t.one) e)
-          enough_here Two = omega (arith, ltb-true p.drawn.two (length t.two) f)
-          enough_here Three = omega (arith, ltb-true p.drawn.three (length t.three) g)
+          enough_here One = leb-true 1 _ e
+          enough_here Two = leb-true 1 _ f
+          enough_here Three = leb-true 1 _ g
 
-  abbrev pub pairs_in_turn : Pairs
-  pairs_in_turn = after-each (draw_each p t) (λ q p₁. after-each (draw_each p₁ t) (λ s p₂. pairs.Words q s p₂) pairs.Spent) pairs.Spent
+  abbrev pub pairs_in_turn : Option ((Shares × Shares) × Place)
+  pairs_in_turn = after (draw_each p t) (λ q p₁. after (draw_each p₁ t) (λ s p₂. Some ((q, s), p₂)) None) None
 
   pub pairs_are_two : pairs_in_turn ≡ draw_pairs p t
   unfolding draw_each draw_pairs block
@@ -255,84 +278,3 @@ module _ (p : Place) (t : Tapes) where
             block-word 2 p.drawn.three 1 t.three (omega arith),
             advance-plus n n p,
           ))
-
-  abbrev pub triple_in_turn : Triple
-  triple_in_turn =
-      after (draw One t.one p)
-      (λ a p₁. after (draw One t.one p₁) (λ b p₂. after (draw One t.one p₂) (λ c p₃. triple.Words a b c p₃) triple.Spent) triple.Spent)
-      triple.Spent
-
-  pub triple_is_three : triple_in_turn ≡ draw_triple p t
-  unfolding draw_triple block
-  triple_is_three = go (ltb d (length l)) refl (ltb (d + 1) (length l)) refl (ltb (d + 1 + 1) (length l)) refl
-    where
-      d : ℕ
-      d = p.drawn.one
-
-      l : List ℕ
-      l = t.one
-
-      n : Drawn
-      n = counts 0 3 0 0
-
-      go : (a : Bool) → ltb d (length l) ≡ a → (b : Bool) → ltb (d + 1) (length l) ≡ b → (c : Bool) → ltb (d + 1 + 1) (length l) ≡ c → triple_in_turn ≡ draw_triple p t
-      go false e b f c g = rw (e, enough_false n p t One (omega (arith, ltb-false d (length l) e)))
-      go true e false f c g = rw (e, f, enough_false n p t One (omega (arith, ltb-false (d + 1) (length l) f)))
-      go true e true f false g = rw (e, f, g, enough_false n p t One (omega (arith, ltb-false (d + 1 + 1) (length l) g)))
-      go true e true f true g =
-          let two-more : d + 1 + 1 ≡ d + 2 = omega arith in
-          let three-more : d + 1 + 1 + 1 ≡ d + 3 = omega arith in
-          rw (e, f, g, enough_true n p t there)
-          (cc (
-            block-first 3 d l (omega arith),
-            block-word 3 d 1 l (omega arith),
-            block-word 3 d 2 l (omega arith),
-            two-more,
-            three-more,
-            add-zero p.drawn.provider,
-            add-zero p.drawn.two,
-            add-zero p.drawn.three,
-          ))
-        where
-          there : (i : Party) → count i n ≤ length (tape i t) - count i p.drawn
-          there Provider = omega arith
-          there One = omega (arith, ltb-true (d + 1 + 1) (length l) g)
-          there Two = omega arith
-          there Three = omega arith
-
-  abbrev pub double_in_turn : Double
-  double_in_turn = after (draw Provider t.provider p) (λ a p₁. after (draw Provider t.provider p₁) (λ b p₂. double.Words a b p₂) double.Spent) double.Spent
-
-  pub double_is_two : double_in_turn ≡ draw_double p t
-  unfolding draw_double block
-  double_is_two = go (ltb d (length l)) refl (ltb (d + 1) (length l)) refl
-    where
-      d : ℕ
-      d = p.drawn.provider
-
-      l : List ℕ
-      l = t.provider
-
-      n : Drawn
-      n = counts 2 0 0 0
-
-      go : (a : Bool) → ltb d (length l) ≡ a → (b : Bool) → ltb (d + 1) (length l) ≡ b → double_in_turn ≡ draw_double p t
-      go false e b f = rw (e, enough_false n p t Provider (omega (arith, ltb-false d (length l) e)))
-      go true e false f = rw (e, f, enough_false n p t Provider (omega (arith, ltb-false (d + 1) (length l) f)))
-      go true e true f =
-          let two-more : d + 1 + 1 ≡ d + 2 = omega arith in
-          rw (e, f, enough_true n p t there)
-          (cc (
-            block-first 2 d l (omega arith),
-            block-word 2 d 1 l (omega arith),
-            two-more,
-            add-zero p.drawn.one,
-            add-zero p.drawn.two,
-            add-zero p.drawn.three,
-          ))
-        where
-          there : (i : Party) → count i n ≤ length (tape i t) - count i p.drawn
-          there Provider = omega (arith, ltb-true (d + 1) (length l) f)
-          there One = omega arith
-          there Two = omega arith
-          there Three = omega arith

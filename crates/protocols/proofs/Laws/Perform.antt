@@ -1,18 +1,19 @@
 -- Protocols on lent tapes in general: by their draws, one after the other, in rounds, and their outcomes.
-use Rattle.std.proofs.Common.{◌≡◌, ℕ, zero, suc, ◌+◌, ◌-◌, ◌≤◌, Bool, true, false, cond, ◌&&◌, List, length, get_or, refl, ap, ◌∙◌, ap₂, append-nil, add-zero, add-suc, add-one, arith, length-append}
+use Rattle.std.proofs.Common.{◌≡◌, ℕ, zero, suc, ◌+◌, ◌-◌, ◌≤◌, Bool, true, false, cond, ◌&&◌, leb, List, length, take, drop, get_or, refl, ap, ◌∙◌, ap₂, append-nil, add-zero, add-suc, add-one, arith, length-append}
+use Rattle.protocols.specs.declared.place.Party.{Party}
 use Rattle.protocols.specs.declared.place.Party.TheVariants.{Provider, One, Two, Three}
-use Rattle.protocols.specs.Outcome.{finished, delivered, delivery, fronts}
-use Rattle.protocols.proofs.Laws.Deliveries.{puts, fronts_puts, room_true}
+use Rattle.protocols.specs.Outcome.{finished, delivered, delivery, fronts, puts}
+use Rattle.protocols.proofs.Laws.Deliveries.{fronts_puts, room_true}
 use Rattle.protocols.specs.declared.place.Received.{Received}
 use Rattle.protocols.specs.Counts.{due}
 use Rattle.protocols.specs.declared.place.Place.{Place}
 use Rattle.protocols.specs.declared.shares.Shares.{Shares}
 use Rattle.protocols.specs.Shares.{one, two, three}
-use Rattle.protocols.specs.Place.{Tapes, Lists, lists, Receiver, miner, controller, list, word, words, counts, plus, cut, rest, advance, tape_number, enough, block, ◌followed_by◌, silence}
-use Rattle.protocols.specs.Draws.{each_case, draw_each, pairs_case, draw_pairs, triple_case, draw_triple, double_case, draw_double}
+use Rattle.protocols.specs.Place.{Tapes, Lists, lists, Receiver, miner, controller, list, words, tape, count, counts, plus, cut, rest, advance, moved, draw, draw_case, tape_number, enough, block, ◌followed_by◌, silence}
+use Rattle.protocols.specs.Draws.{draw_each, draw_pairs}
 use Rattle.protocols.specs.Protocol.{Protocol, ◌then◌, repeated, locally, on, Answer, done, spent, perform}
 use Rattle.protocols.specs.Claims.{OnTapes}
-use Rattle.protocols.proofs.Laws.Draws.{after-each, after_pairs, after_triple, after_double, enough_true, enough_false, Agree, enough_agree, block_agree, enough-plus, cut-block, rest-block, advance-plus}
+use Rattle.protocols.proofs.Laws.Draws.{after, only, enough_only, block_only, advance_only, enough_true, enough_false, Agree, enough_agree, block_agree, enough-plus, cut-block, rest-block, advance-plus}
 
 -- ---- a protocol by its draws
 
@@ -20,7 +21,7 @@ module _ {S T : Type 0} where
   -- a word by each miner
   pub by_each : (R : S → Shares → T) (L : S → Shares → Lists) (s : S) (p : Place) (t : Tapes)
       → perform (record { draws = counts 0 1 1 1; result = λ s b. R s (words b 0); received = λ s b. L s (words b 0) }) s p t
-      ≡ after-each (draw_each p t) (λ r q. done (R s r) (L s r) q) spent
+      ≡ after (draw_each p t) (λ r q. done (R s r) (L s r) q) spent
   unfolding perform draw_each
   by_each R L s p t = go (enough (counts 0 1 1 1) p t)
     where
@@ -30,14 +31,14 @@ module _ {S T : Type 0} where
       q : Place
       q = advance p (counts 0 1 1 1)
 
-      go : (e : Bool) → cond e (done (R s r) (L s r) q) spent ≡ after-each (each_case (tape_number e) r q) (λ r q. done (R s r) (L s r) q) spent
+      go : (e : Bool) → cond e (done (R s r) (L s r) q) spent ≡ after (draw_case (tape_number e) r q) (λ r q. done (R s r) (L s r) q) spent
       go true = refl
       go false = refl
 
   -- two words by each miner
   pub by_pairs : (R : S → Shares → Shares → T) (L : S → Shares → Shares → Lists) (s : S) (p : Place) (t : Tapes)
       → perform (record { draws = counts 0 2 2 2; result = λ s b. R s (words b 0) (words b 1); received = λ s b. L s (words b 0) (words b 1) }) s p t
-      ≡ after_pairs (draw_pairs p t) (λ x y q. done (R s x y) (L s x y) q) spent
+      ≡ after {T = Shares × Shares} (draw_pairs p t) (λ x q. done (R s x.0 x.1) (L s x.0 x.1) q) spent
   unfolding perform draw_pairs
   by_pairs R L s p t = go (enough (counts 0 2 2 2) p t)
     where
@@ -48,55 +49,22 @@ module _ {S T : Type 0} where
       q = advance p (counts 0 2 2 2)
 
       go : (e : Bool) → cond e (done (R s (words b 0) (words b 1)) (L s (words b 0) (words b 1)) q) spent
-          ≡ after_pairs (pairs_case (tape_number e) (words b 0) (words b 1) q) (λ x y q. done (R s x y) (L s x y) q) spent
+          ≡ after {T = Shares × Shares} (draw_case {T = Shares × Shares} (tape_number e) (words b 0, words b 1) q) (λ x q. done (R s x.0 x.1) (L s x.0 x.1) q) spent
       go true = refl
       go false = refl
 
-  -- three words by miner 1
-  pub by_triple : (R : S → ℕ → ℕ → ℕ → T) (L : S → ℕ → ℕ → ℕ → Lists) (s : S) (p : Place) (t : Tapes)
-      → perform
-      (record {
-        draws = counts 0 3 0 0;
-        result = λ s b. R s (word b one 0) (word b one 1) (word b one 2);
-        received = λ s b. L s (word b one 0) (word b one 1) (word b one 2);
-      })
-      s p t
-      ≡ after_triple (draw_triple p t) (λ x y z q. done (R s x y z) (L s x y z) q) spent
-  unfolding perform draw_triple
-  by_triple R L s p t = go (enough (counts 0 3 0 0) p t)
+  -- k words by one party
+  pub by_words : (i : Party) (k : ℕ) (R : S → List ℕ → T) (L : S → List ℕ → Lists) (s : S) (p : Place) (t : Tapes)
+      → perform (record { draws = only i k; result = λ s b. R s (tape i b); received = λ s b. L s (tape i b) }) s p t
+      ≡ after (draw k i (tape i t) p) (λ w q. done (R s w) (L s w) q) spent
+  unfolding perform draw
+  by_words i k R L s p t =
+      rw (enough_only p t i k, block_only p t i k, advance_only p t i k) (go (leb k (length (tape i t) - count i p.drawn)))
     where
-      b : Tapes
-      b = block (counts 0 3 0 0) p t
+      w : List ℕ
+      w = take k (drop (count i p.drawn) (tape i t))
 
-      q : Place
-      q = advance p (counts 0 3 0 0)
-
-      go : (e : Bool) → cond e (done (R s (word b one 0) (word b one 1) (word b one 2)) (L s (word b one 0) (word b one 1) (word b one 2)) q) spent
-          ≡ after_triple (triple_case (tape_number e) (word b one 0) (word b one 1) (word b one 2) q) (λ x y z q. done (R s x y z) (L s x y z) q) spent
-      go true = refl
-      go false = refl
-
-  -- two words by the provider
-  pub by_double : (R : S → ℕ → ℕ → T) (L : S → ℕ → ℕ → Lists) (s : S) (p : Place) (t : Tapes)
-      → perform
-      (record {
-        draws = counts 2 0 0 0;
-        result = λ s b. R s (get_or b.provider 0 0) (get_or b.provider 1 0);
-        received = λ s b. L s (get_or b.provider 0 0) (get_or b.provider 1 0);
-      })
-      s p t
-      ≡ after_double (draw_double p t) (λ x y q. done (R s x y) (L s x y) q) spent
-  unfolding perform draw_double
-  by_double R L s p t = go (enough (counts 2 0 0 0) p t)
-    where
-      l : List ℕ
-      l = (block (counts 2 0 0 0) p t).provider
-
-      q : Place
-      q = advance p (counts 2 0 0 0)
-
-      go : (e : Bool) → cond e (done (R s (get_or l 0 0) (get_or l 1 0)) (L s (get_or l 0 0) (get_or l 1 0)) q) spent
-          ≡ after_double (double_case (tape_number e) (get_or l 0 0) (get_or l 1 0) q) (λ x y q. done (R s x y) (L s x y) q) spent
+      go : (e : Bool) → cond e (done (R s w) (L s w) (moved k i p)) spent ≡ after (draw_case (tape_number e) w (moved k i p)) (λ w q. done (R s w) (L s w) q) spent
       go true = refl
       go false = refl
 

@@ -1,4 +1,6 @@
 -- What the code returns where tapes and lists have enough, by the words that it drew, worked out and put.
+use Rattle.std.specs.Prelude.{Some}
+use Rattle.protocols.specs.declared.place.Party.TheVariants.{One}
 use Rattle.std.proofs.Common.{◌≡◌, ℕ, suc, ◌+◌, ◌*◌, true, ◌&&◌, leb, List, [], ◌∷◌, length, set, arith}
 use lib.Bits.{bit_xor}
 use lib.Seq.{sets}
@@ -7,15 +9,12 @@ use Rattle.protocols.specs.declared.bits.Held.{Held}
 use Rattle.protocols.specs.declared.equal.Folding.{Folding}
 use Rattle.protocols.specs.declared.place.Place.{Place}
 use Rattle.protocols.specs.declared.shares.Shares.{Shares}
-use Rattle.protocols.specs.declared.draws.Each.TheVariants as each
-use Rattle.protocols.specs.declared.draws.Pairs.TheVariants as pairs
-use Rattle.protocols.specs.declared.draws.Triple.TheVariants as triple
 use Rattle.protocols.specs.Word.{modulus, width, add, sub, low, choose}
 use Rattle.protocols.specs.Shares.{shares, operands}
-use Rattle.protocols.specs.Place.{Tapes, tapes, Lists, lists, in_order, to_next, to_two_three, ◌followed_by◌}
-use Rattle.protocols.specs.Draws.{draw_each, draw_pairs, draw_triple}
+use Rattle.protocols.specs.Place.{Tapes, tapes, Lists, lists, draw, in_order, to_next, to_two_three, ◌followed_by◌}
+use Rattle.protocols.specs.Draws.{draw_each, draw_pairs}
 use Rattle.protocols.specs.Protocol.{perform}
-use Rattle.protocols.specs.Outcome.{finished, delivered, delivery, fronts}
+use Rattle.protocols.specs.Outcome.{finished, delivered, delivery, fronts, puts}
 use Rattle.protocols.specs.Masked.{masked}
 use Rattle.protocols.specs.Reshare.{fresh}
 use Rattle.protocols.specs.Open.{opening}
@@ -23,11 +22,10 @@ use Rattle.protocols.specs.Multiply.{product, multiply}
 use Rattle.protocols.specs.Bit.{bits_at, bit}
 use Rattle.protocols.specs.Bits.{start, deal, begun, carried}
 use Rattle.protocols.specs.Equal.{folded}
-use Rattle.protocols.proofs.Laws.Deliveries.{puts}
 use Rattle.protocols.proofs.Laws.Lent.{opening_performs, multiply_performs, bit_performs, sent_before, folded_before}
 
 pub opening_returns : (m : ℕ) (s : Shares) (p : Place) (t : Tapes) (a b c d : List ℕ) {r x : Shares} {q : Place}
-    → draw_each p t ≡ each.Words r q → leb 3 (length d) && (leb 1 (length a) && (leb 1 (length b) && leb 1 (length c))) ≡ true
+    → draw_each p t ≡ Some (r, q) → leb 3 (length d) && (leb 1 (length a) && (leb 1 (length b) && leb 1 (length c))) ≡ true
     → x ≡ fresh m s r
     → delivered (finished x q) (lists (set a 0 r.three) (set b 0 r.one) (set c 0 r.two) (sets d 0 (in_order x)))
     ≡ delivery p (perform (opening m) s p t) (lists a b c d)
@@ -35,7 +33,7 @@ unfolding opening
 opening_returns m s p t a b c d drawn room ex = rw (opening_performs, drawn, room, ex)
 
 pub multiply_returns : (m : ℕ) (u v : Shares) (p : Place) (t : Tapes) (a b c : List ℕ) {r s x y z : Shares} {q : Place} {l : Lists}
-    → draw_pairs p t ≡ pairs.Words r s q → leb 4 (length a) && (leb 4 (length b) && leb 4 (length c)) ≡ true
+    → draw_pairs p t ≡ Some ((r, s), q) → leb 4 (length a) && (leb 4 (length b) && leb 4 (length c)) ≡ true
     → x ≡ fresh m u r → y ≡ fresh m v s → z ≡ product m x y
     → l ≡ fronts (lists a b c []) (to_next r followed_by to_next s followed_by to_next x followed_by to_next y)
     → delivered (finished z q) l ≡ delivery p (perform (multiply m) (operands u v) p t) (lists a b c [])
@@ -43,7 +41,7 @@ unfolding multiply
 multiply_returns m u v p t a b c drawn room ex ey ez el = rw (multiply_performs, drawn, room, ez, el, ex, ey)
 
 pub bit_returns : (m j : ℕ) (u : Shares) (p : Place) (t : Tapes) (a b : List ℕ) {x y z d e n : ℕ} {v s : Shares} {q : Place}
-    → draw_triple p t ≡ triple.Words x y z q → leb 3 (length a) && leb 3 (length b) ≡ true
+    → draw 3 One t.one p ≡ Some (x ∷ y ∷ z ∷ [], q) → leb 3 (length a) && leb 3 (length b) ≡ true
     → v ≡ bits_at j u → d ≡ low x → e ≡ low z → n ≡ sub m (bit_xor d v.one) y
     → let s₂₃ = bit_xor e v.two in let s₃₂ = bit_xor (bit_xor d e) v.three in
     s ≡ shares 0 (choose (bit_xor s₂₃ s₃₂) y (sub m 1 y)) (choose (bit_xor s₂₃ s₃₂) n (sub m 0 n))

@@ -1,31 +1,20 @@
--- `protocols::multiply::multiply` meets its contract.
-use Rattle.std.proofs.Common.{sym, ◌∙◌}
-use Rattle.protocols.specs.Multiply.{multiply}
-use Rattle.protocols.proofs.Laws.Lent.{multiply_performs}
+use Rattle.std.proofs.Common.{rules, ◌≡◌, ℕ, ◌+◌, ◌-◌, ◌*◌, ◌<◌, ◌≤◌, length, ◌/◌, ◌%◌, Bool, true, false, nat_eq, nat_lt, List, [], ◌∷◌, ◌++◌, slice_index_or, slice_set, bit_and, bit_or, Fits, w8, w32, w64, Bor, MutBor}
+use Rattle.protocols.specs.Word.{modulus}
+use Rattle.protocols.specs.Shares.{operands}
+use Rattle.protocols.specs.Protocol.{perform}
+use Rattle.protocols.specs.Outcome.{outcome, delivered, delivery}
+use Rattle.protocols.specs.Lent.{tapes_of, lists_of, Same}
+use Rattle.protocols.specs.Multiply as spec
 use Rattle.protocols.proofs.multiply.multiply.Goals as goal
 
-pub returns-in_default : goal.returns-in_default
-returns-in_default c = rw (multiply_performs, sym c.draw_pairs.ensures ∙ c.in_default.is, c.refused.ensures)
+-- src/multiply.rt:45:9
+pub returns-in_default-clause-done : goal.returns-in_default-clause-done
+returns-in_default-clause-done c = ?
 
-pub returns-then-not-have_room : goal.returns-then-not-have_room
-unfolding multiply
-returns-then-not-have_room c =
-    rw (
-      multiply_performs,
-      sym c.draw_pairs.ensures ∙ c.in-Words.is,
-      sym c.have_room.ensures ∙ c.if-not-have_room.true,
-      c.refused-then-not-have_room.ensures,
-    )
+-- src/multiply.rt:48:9
+pub returns-then-not-have_room-clause-done : goal.returns-then-not-have_room-clause-done
+returns-then-not-have_room-clause-done c = ?
 
-pub returns : goal.returns
-unfolding multiply
-returns c =
-    rw (
-      multiply_performs,
-      sym c.draw_pairs.ensures ∙ c.in-Words.is,
-      sym c.have_room.ensures ∙ c.if-not-have_room.false,
-      c.product.ensures,
-      c.pass_four.ensures,
-      c.fresh-x.ensures,
-      c.fresh-y.ensures,
-    )
+-- src/multiply.rt:34:1
+pub returns-clause-done : goal.returns-clause-done
+returns-clause-done c = ?

@@ -1,29 +1,19 @@
--- `protocols::store::store` meets its contract.
-use Rattle.std.proofs.Common.{sym, ◌∙◌}
-use Rattle.protocols.specs.Store.{store}
-use Rattle.protocols.proofs.Laws.Lent.{store_performs}
+use Rattle.std.proofs.Common.{rules, ◌≡◌, ℕ, ◌+◌, ◌-◌, ◌*◌, ◌<◌, ◌≤◌, length, ◌/◌, ◌%◌, Bool, true, false, nat_eq, nat_lt, List, [], ◌∷◌, ◌++◌, slice_index_or, slice_set, bit_and, bit_or, Fits, w8, w32, w64, Bor, MutBor}
+use Rattle.protocols.specs.Word.{modulus}
+use Rattle.protocols.specs.Protocol.{perform}
+use Rattle.protocols.specs.Outcome.{outcome, delivered, delivery}
+use Rattle.protocols.specs.Lent.{tapes_of, lists_of, Same}
+use Rattle.protocols.specs.Store as spec
 use Rattle.protocols.proofs.store.store.Goals as goal
 
-pub returns-in_default : goal.returns-in_default
-returns-in_default c = rw (store_performs, sym c.draw_double.ensures ∙ c.in_default.is, c.refused.ensures)
+-- src/store.rt:21:9
+pub returns-in_default-clause-done : goal.returns-in_default-clause-done
+returns-in_default-clause-done c = ?
 
-pub returns-then-not-have_room : goal.returns-then-not-have_room
-unfolding store
-returns-then-not-have_room c =
-    rw (
-      store_performs,
-      sym c.draw_double.ensures ∙ c.in-Words.is,
-      sym c.have_room.ensures ∙ c.if-not-have_room.true,
-      c.refused-then-not-have_room.ensures,
-    )
+-- src/store.rt:24:9
+pub returns-then-not-have_room-clause-done : goal.returns-then-not-have_room-clause-done
+returns-then-not-have_room-clause-done c = ?
 
-pub returns : goal.returns
-unfolding store
-returns c =
-    rw (
-      store_performs,
-      sym c.draw_double.ensures ∙ c.in-Words.is,
-      sym c.have_room.ensures ∙ c.if-not-have_room.false,
-      c.sub-2.ensures,
-      c.sub.ensures,
-    )
+-- src/store.rt:16:1
+pub returns-clause-done : goal.returns-clause-done
+returns-clause-done c = ?

@@ -1,0 +1,33 @@
+-- What is lent to a protocol, as the code holds it. (01, 'Handles, tapes and places')
+use Rattle.std.specs.Prelude.{ℕ, ◌≡◌, Option, Some, None, List, [], map}
+use Rattle.std.specs.Borrow.{Bor}
+use Rattle.protocols.specs.declared.lent.Lists as code_lists
+use Rattle.protocols.specs.declared.lent.Tapes as code_tapes
+use Rattle.protocols.specs.declared.place.Place.{Place}
+use Rattle.protocols.specs.declared.shares.Shares.{Shares}
+use Rattle.protocols.specs.Place.{Tapes, tapes, Lists, lists}
+
+-- the four tapes
+abbrev pub tapes_of : code_tapes.Tapes → Tapes
+tapes_of t = tapes t.provider.now t.one.now t.two.now t.three.now
+
+-- the four received lists
+abbrev pub lists_of : code_lists.Lists → Lists
+lists_of l = lists l.one.now l.two.now l.three.now l.controller.now
+
+-- the same four lists are lent, whatever stands in them
+abbrev pub Same : code_lists.Lists → code_lists.Lists → Type 0
+Same a b =
+    (b.one.ghost_name ≡ a.one.ghost_name)
+    × (b.two.ghost_name ≡ a.two.ghost_name)
+    × (b.three.ghost_name ≡ a.three.ghost_name)
+    × (b.controller.ghost_name ≡ a.controller.ghost_name)
+
+-- the words that a draw lends
+abbrev pub drawn : Option (Bor (List ℕ) × Place) → Option (List ℕ × Place)
+drawn (Some (w, q)) = Some (w.now, q)
+drawn None = None
+
+-- each miner sends its words to the next miner, in order
+abbrev pub to_next_in_order : List Shares → Lists
+to_next_in_order s = lists (map (λ x. x.three) s) (map (λ x. x.one) s) (map (λ x. x.two) s) []
