@@ -1,6 +1,6 @@
 -- When a command is turned down: the lowest number that applies, and only then. (01, 'When a call is turned down', numbers 4 to 13)
 -- It is told from what is public: the command, the place record, the lengths of all lent lists, and the kinds.
-use Rattle.std.specs.Prelude.{ℕ, zero, suc, ◌-◌, Bool, true, cond, ◌&&◌, ◌||◌, List, [], ◌∷◌, take, nat_lt, nat_le, nat_eq}
+use Rattle.std.specs.Prelude.{ℕ, zero, suc, ◌-◌, Bool, true, cond, ◌&&◌, ◌||◌, List, [], ◌∷◌, take, nat_lt, nat_le, nat_eq, Result, Ok, Err}
 use Rattle.protocols.specs.declared.place.Place.{Place}
 use Rattle.protocols.specs.Word.{width}
 use Rattle.protocols.specs.Shares.{one, two, three}
@@ -8,12 +8,12 @@ use Rattle.protocols.specs.Place.{count, every, Receiver, miner, controller}
 use Rattle.protocols.specs.Counts.{due}
 use Rattle.machine.specs.declared.code.Command.{Command}
 use Rattle.machine.specs.declared.code.Code.{Code}
-use Rattle.machine.specs.declared.code.Lookup.{Lookup}
-use Rattle.machine.specs.declared.code.Lookup.TheVariants.{Found, Missing}
+use Rattle.machine.specs.declared.refusal.Refusal.{Refusal}
 use Rattle.machine.specs.declared.row.Use.{Use}
 use Rattle.machine.specs.declared.row.Use.TheVariants.{Unused, Handle, Word, Position}
 use Rattle.machine.specs.declared.row.Row.{Row}
 use Rattle.machine.specs.declared.lent.Sizes.{Sizes}
+use Rattle.machine.specs.Refusal as table
 use Rattle.machine.specs.Table.{find, row}
 use Rattle.machine.specs.Lent.{entry}
 
@@ -135,9 +135,9 @@ unfoldable pub judged : ℕ → Row → Command → Place → Sizes → List ℕ
 judged n x c p z kinds next = told (refusal n x c p z.one z.inputs kinds) (supplied x p z next)
 
 -- 5: 'code not 1 to 12'
-abbrev pub looked_up : ℕ → Lookup → Command → Place → Sizes → List ℕ → Verdict
-looked_up n (Found x) c p z kinds = judged n (row n x) c p z kinds (Accepted x)
-looked_up n Missing c p z kinds = Refused 5
+abbrev pub looked_up : ℕ → Result Code Refusal → Command → Place → Sizes → List ℕ → Verdict
+looked_up n (Ok x) c p z kinds = judged n (row n x) c p z kinds (Accepted x)
+looked_up n (Err r) c p z kinds = Refused (table.number r)
 
 unfoldable pub verdict : ℕ → Command → Place → Sizes → List ℕ → Verdict
 verdict n c p z kinds = test 4 (sound p z kinds) (looked_up n (find c.code) c p z kinds)

@@ -2,12 +2,13 @@
 use Prim.Native.Nat.{ℕ}
 use mathlib.Core.Path.{◌≡◌, sym, ap, ◌∙◌}
 use mathlib.Core.Bool.{true}
+use Rattle.std.specs.Prelude.{Result, Ok, Err}
 use Rattle.protocols.specs.declared.place.Place.{Place}
 use Rattle.machine.specs.declared.answer.Answer.{Answer}
 use Rattle.machine.specs.declared.code.Code.{Code}
 use Rattle.machine.specs.declared.code.Command.{Command}
-use Rattle.machine.specs.declared.code.Lookup.{Lookup}
-use Rattle.machine.specs.declared.code.Lookup.TheVariants.{Found, Missing}
+use Rattle.machine.specs.declared.refusal.Refusal.{Refusal}
+use Rattle.machine.specs.Refusal.{number}
 use Rattle.machine.specs.Table.{find, row}
 use Rattle.machine.specs.Lent.{Lent, sizes}
 use Rattle.machine.specs.Verdict.{Verdict, Accepted, Refused, sound, refusal, judged, supplied, verdict}
@@ -20,11 +21,12 @@ module _ (c : Command) (p : Place) (l : Lent) (s : sound p (sizes l) l.kinds ≡
   unfolding command
   by_verdict e = ap (λ (v : Verdict). decided 5 v c p l) e
 
-  pub unknown_is : {y : Lookup} {a : Answer} → y ≡ find c.code → y ≡ Missing → a ≡ answer 5 p 0 → outcome a l ≡ command 5 c p l
+  pub unknown_is : {y : Result Code Refusal} {r : Refusal} {a : Answer} → y ≡ find c.code → y ≡ Err r → a ≡ answer (number r) p 0
+      → outcome a l ≡ command 5 c p l
   unfolding verdict
-  unknown_is ey em ea = ap (λ (a : Answer). outcome a l) ea ∙ by_verdict {v = Refused 5} (sym (rw (s, sym ey ∙ em)))
+  unknown_is {r} ey em ea = ap (λ (a : Answer). outcome a l) ea ∙ by_verdict {v = Refused (number r)} (sym (rw (s, sym ey ∙ em)))
 
-  module _ {y : Lookup} (x : Code) (ey : y ≡ find c.code) (ex : y ≡ Found x) where
+  module _ {y : Result Code Refusal} (x : Code) (ey : y ≡ find c.code) (ex : y ≡ Ok x) where
     known : judged 5 (row 5 x) c p (sizes l) l.kinds (Accepted x) ≡ verdict 5 c p (sizes l) l.kinds
     unfolding verdict
     known = sym (rw (s, sym ey ∙ ex))
