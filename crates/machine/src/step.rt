@@ -36,9 +36,15 @@ pub(crate) fn step(
         Ok(code) => code,
         Err(refusal) => return Answer::untouched(u32::from(refusal), place),
     };
-    let number = judge::refusal(code, c, place, share1.len(), inputs.len(), kinds);
-    if number != 0 {
-        return Answer::untouched(number, place);
+    if let Err(refusal) = judge::fields_and_room(
+        code,
+        c,
+        place,
+        share1.len(),
+        inputs.len(),
+        kinds,
+    ) {
+        return Answer::untouched(u32::from(refusal), place);
     }
     accept::accept(
         code, c, place, share1, share2, share3, kinds, inputs, provider, tape1, tape2, tape3,
