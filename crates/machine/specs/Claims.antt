@@ -1,6 +1,6 @@
 -- What this crate claims of the command machine, as types; proofs/Claims.antt proves each.
 -- n stands for words of 2 ^ n bits; the code's contract cites the same definitions at n = 5.
-use Rattle.std.specs.Prelude.{ℕ, suc, ◌+◌, ◌^◌, ◌≤◌, ◌<◌, ◌≡◌, ◌↔◌, List, [], ◌∷◌, ◌++◌, map, length, get_or, take, drop, replicate}
+use Rattle.std.specs.Prelude.{ℕ, suc, ◌+◌, ◌^◌, ◌≤◌, ◌<◌, ◌≡◌, ◌↔◌, List, [], ◌∷◌, ◌++◌, map, length, get_or, take, drop, replicate, Ok}
 use Rattle.protocols.specs.declared.place.Drawn.{Drawn}
 use Rattle.protocols.specs.declared.place.Place.{Place}
 use Rattle.protocols.specs.declared.shares.Shares.{Shares}
@@ -14,7 +14,6 @@ use Rattle.protocols.specs.Worked.{Worked}
 use Rattle.machine.specs.declared.code.Command.{Command}
 use Rattle.machine.specs.declared.code.Code.{Code}
 use Rattle.machine.specs.declared.code.Code.TheVariants.{Store, Add, Subtract, AddConstant, TimesConstant, Multiply, Reshare, Bits, Bit, Equal, Open, Below}
-use Rattle.machine.specs.declared.code.Lookup.TheVariants.{Found}
 use Rattle.machine.specs.declared.row.Row.{Row}
 use Rattle.machine.specs.declared.row.Use.TheVariants.{Unused, Handle, Word, Position}
 use Rattle.machine.specs.declared.lent.Sizes.{Sizes}
@@ -33,7 +32,7 @@ use Rattle.machine.specs.Refusals.{Applies, Lowest}
 -- ---- the table of 01 at 32 bits, line by line
 
 abbrev pub Line : ℕ → Code → Row → Type 0
-Line number x r = (find number ≡ Found x) × (row 5 x ≡ r)
+Line number x r = (find number ≡ Ok x) × (row 5 x ≡ r)
 
 -- number and command; use of a and b; kinds of operands and new value; new values; inputs; received by miners 1, 2, 3 and controller;
 -- drawn by provider and miners 1, 2, 3

@@ -1,6 +1,6 @@
 -- The table of refusals, line by line, as plain propositions about a command. (01, 'When a call is turned down')
 -- Numbers 1 to 3 and the last case of 4 are a session's.
-use Rattle.std.specs.Prelude.{ℕ, ◌-◌, ◌≤◌, ◌<◌, ◌≡◌, length}
+use Rattle.std.specs.Prelude.{ℕ, ◌-◌, ◌≤◌, ◌<◌, ◌≡◌, length, Ok}
 use Rattle.protocols.specs.declared.place.Party.{Party}
 use Rattle.protocols.specs.declared.place.Place.{Place}
 use Rattle.protocols.specs.Word.{width}
@@ -10,7 +10,6 @@ use Rattle.protocols.specs.Counts.{due}
 use Rattle.machine.specs.declared.code.Command.{Command}
 use Rattle.machine.specs.declared.code.Code.{Code}
 use Rattle.machine.specs.declared.code.Code.TheVariants.{Store}
-use Rattle.machine.specs.declared.code.Lookup.TheVariants.{Found}
 use Rattle.machine.specs.declared.row.Use.{Use}
 use Rattle.machine.specs.declared.row.Use.TheVariants.{Unused, Handle, Position}
 use Rattle.machine.specs.declared.row.Row.{Row}
@@ -59,23 +58,23 @@ pub data Applies (n : ℕ) (c : Command) (p : Place) (l : Lent) : ℕ → Type 0
   -- 5: 'code not 1 to 12'
   no_code : ¬ ((1 ≤ c.code) × (c.code ≤ 12)) → Applies n c p l 5
   -- 6: 'an unused field isn't 0'
-  unused_field : (x : Code) → find c.code ≡ Found x → (f : Field) → use_of f (row n x) ≡ Unused → ¬ (field f c ≡ 0) → Applies n c p l 6
+  unused_field : (x : Code) → find c.code ≡ Ok x → (f : Field) → use_of f (row n x) ≡ Unused → ¬ (field f c ≡ 0) → Applies n c p l 6
   -- 7: 'a used handle is 0 or not filled'
-  not_filled : (x : Code) → find c.code ≡ Found x → (f : Field) → use_of f (row n x) ≡ Handle → ¬ Filled p (field f c) → Applies n c p l 7
+  not_filled : (x : Code) → find c.code ≡ Ok x → (f : Field) → use_of f (row n x) ≡ Handle → ¬ Filled p (field f c) → Applies n c p l 7
   -- 8: 'a filled handle of the wrong kind'
-  wrong_kind : (x : Code) → find c.code ≡ Found x → (f : Field) → use_of f (row n x) ≡ Handle → Filled p (field f c)
+  wrong_kind : (x : Code) → find c.code ≡ Ok x → (f : Field) → use_of f (row n x) ≡ Handle → Filled p (field f c)
       → ¬ (entry l.kinds (field f c) ≡ (row n x).operands) → Applies n c p l 8
   -- 9: 'bit position over 31'
-  over_position : (x : Code) → find c.code ≡ Found x → (f : Field) → use_of f (row n x) ≡ Position → width n - 1 < field f c → Applies n c p l 9
+  over_position : (x : Code) → find c.code ≡ Ok x → (f : Field) → use_of f (row n x) ≡ Position → width n - 1 < field f c → Applies n c p l 9
   -- 10: 'a new value is due and the share tables are full'
-  tables_full : (x : Code) → find c.code ≡ Found x → (row n x).values ≡ 1 → length l.tables.one ≤ p.handles → Applies n c p l 10
+  tables_full : (x : Code) → find c.code ≡ Ok x → (row n x).values ≡ 1 → length l.tables.one ≤ p.handles → Applies n c p l 10
   -- 11: 'store with all inputs used'
-  inputs_used : find c.code ≡ Found Store → length l.inputs ≤ p.inputs → Applies n c p l 11
+  inputs_used : find c.code ≡ Ok Store → length l.inputs ≤ p.inputs → Applies n c p l 11
   -- 12: 'any tape has fewer words left than the command draws'
-  spent_tape : (x : Code) → find c.code ≡ Found x
+  spent_tape : (x : Code) → find c.code ≡ Ok x
       → (i : Party) → length (tape i l.tapes) - count i p.drawn < count i (row n x).drawn → Applies n c p l 12
   -- 13: 'any received list has fewer words left than needed'
-  list_full : (x : Code) → find c.code ≡ Found x
+  list_full : (x : Code) → find c.code ≡ Ok x
       → (r : Receiver) → length (list r l.received) - due r p.received < due r (row n x).received → Applies n c p l 13
 
 -- 'The lowest number that applies'

@@ -1,5 +1,5 @@
 -- The table of commands, over words of 2 ^ n bits. (01, 'The commands')
-use Rattle.std.specs.Prelude.{ℕ, ◌+◌, ◌*◌, Bool, cond, List, get_or, nat_lt, nat_eq}
+use Rattle.std.specs.Prelude.{ℕ, ◌+◌, ◌*◌, Bool, cond, List, get_or, nat_lt, nat_eq, Result, Ok, Err}
 use Rattle.protocols.specs.declared.place.Drawn.{Drawn}
 use Rattle.protocols.specs.declared.place.Place.{Place}
 use Rattle.protocols.specs.declared.place.Received.{Received}
@@ -8,8 +8,8 @@ use Rattle.protocols.specs.Counts.{received, plus_received}
 use Rattle.machine.specs.declared.code.Command.{Command}
 use Rattle.machine.specs.declared.code.Code.{Code}
 use Rattle.machine.specs.declared.code.Code.TheVariants.{Store, Add, Subtract, AddConstant, TimesConstant, Multiply, Reshare, Bits, Bit, Equal, Open, Below}
-use Rattle.machine.specs.declared.code.Lookup.{Lookup}
-use Rattle.machine.specs.declared.code.Lookup.TheVariants.{Found, Missing}
+use Rattle.machine.specs.declared.refusal.Refusal.{Refusal}
+use Rattle.machine.specs.declared.refusal.Refusal.TheVariants.{UnknownCode}
 use Rattle.machine.specs.declared.row.Use.{Use}
 use Rattle.machine.specs.declared.row.Use.TheVariants.{Unused, Handle, Word, Position}
 use Rattle.machine.specs.declared.row.Row.{Row}
@@ -19,11 +19,11 @@ abbrev pub command : ℕ → ℕ → ℕ → Command
 command code a b = record { code = code; a = a; b = b }
 
 -- the command of a code word
-abbrev pub find : ℕ → Lookup
+abbrev pub find : ℕ → Result Code Refusal
 find x =
-    cond (nat_eq x 1) (Found Store) (cond (nat_eq x 2) (Found Add) (cond (nat_eq x 3) (Found Subtract) (cond (nat_eq x 4) (Found AddConstant)
-    (cond (nat_eq x 5) (Found TimesConstant) (cond (nat_eq x 6) (Found Multiply) (cond (nat_eq x 7) (Found Reshare) (cond (nat_eq x 8) (Found Bits)
-    (cond (nat_eq x 9) (Found Bit) (cond (nat_eq x 10) (Found Equal) (cond (nat_eq x 11) (Found Open) (cond (nat_eq x 12) (Found Below) Missing)))))))))))
+    cond (nat_eq x 1) (Ok Store) (cond (nat_eq x 2) (Ok Add) (cond (nat_eq x 3) (Ok Subtract) (cond (nat_eq x 4) (Ok AddConstant)
+    (cond (nat_eq x 5) (Ok TimesConstant) (cond (nat_eq x 6) (Ok Multiply) (cond (nat_eq x 7) (Ok Reshare) (cond (nat_eq x 8) (Ok Bits)
+    (cond (nat_eq x 9) (Ok Bit) (cond (nat_eq x 10) (Ok Equal) (cond (nat_eq x 11) (Ok Open) (cond (nat_eq x 12) (Ok Below) (Err UnknownCode))))))))))))
 
 -- a line: use of a and b, the operands' kind, the new value's kind, new values, inputs, words received by miners 1 to 3 and the
 -- controller, words drawn by the provider and miners 1 to 3

@@ -1,6 +1,7 @@
 -- When a command is turned down: the lowest number that applies, and only then. (01, 'When a call is turned down', numbers 4 to 13)
 -- It is told from what is public: the command, the place record, the lengths of all lent lists, and the kinds.
-use Rattle.std.specs.Prelude.{ℕ, zero, suc, ◌-◌, Bool, true, cond, ◌&&◌, ◌||◌, List, [], ◌∷◌, take, nat_lt, nat_le, nat_eq}
+use Rattle.std.specs.Prelude.{ℕ, zero, suc, ◌-◌, Bool, true, cond, ◌&&◌, ◌||◌, List, take, nat_lt, nat_le, nat_eq, Result, Ok, Err}
+use Rattle.std.specs.List.{list_all}
 use Rattle.protocols.specs.declared.place.Place.{Place}
 use Rattle.protocols.specs.Word.{width}
 use Rattle.protocols.specs.Shares.{one, two, three}
@@ -8,12 +9,12 @@ use Rattle.protocols.specs.Place.{count, every, Receiver, miner, controller}
 use Rattle.protocols.specs.Counts.{due}
 use Rattle.machine.specs.declared.code.Command.{Command}
 use Rattle.machine.specs.declared.code.Code.{Code}
-use Rattle.machine.specs.declared.code.Lookup.{Lookup}
-use Rattle.machine.specs.declared.code.Lookup.TheVariants.{Found, Missing}
+use Rattle.machine.specs.declared.refusal.Refusal.{Refusal}
 use Rattle.machine.specs.declared.row.Use.{Use}
 use Rattle.machine.specs.declared.row.Use.TheVariants.{Unused, Handle, Word, Position}
 use Rattle.machine.specs.declared.row.Row.{Row}
 use Rattle.machine.specs.declared.lent.Sizes.{Sizes}
+use Rattle.machine.specs.Refusal as table
 use Rattle.machine.specs.Table.{find, row}
 use Rattle.machine.specs.Lent.{entry}
 
@@ -58,9 +59,8 @@ within p z =
 abbrev pub is_kind : ℕ → Bool
 is_kind k = nat_eq k 1 || nat_eq k 2
 
-unfoldable pub are_kinds : List ℕ → Bool
-are_kinds [] = true
-are_kinds (k ∷ l) = is_kind k && are_kinds l
+abbrev pub are_kinds : List ℕ → Bool
+are_kinds kinds = list_all is_kind kinds
 
 abbrev pub sound : Place → Sizes → List ℕ → Bool
 sound p z kinds = same_length z && (within p z && are_kinds (take p.handles kinds))
@@ -114,17 +114,20 @@ lists_have x p z = every_list (λ r. nat_le (due r x.received) (due r z.received
 
 -- ---- all of it
 
--- 6 to 11, by the row
+-- 6 to 9, by the row
+abbrev pub fields : ℕ → Row → Command → Place → List ℕ → ℕ
+fields n x c p kinds = check 6 (unused_zero x c) (check 7 (handles_filled x p c) (check 8 (kinds_fit x kinds c) (check 9 (in_word n x c) 0)))
+
+-- 10 and 11
+abbrev pub room : Row → Place → ℕ → ℕ → ℕ
+room x p entries inputs = check 10 (tables_have x p entries) (check 11 (inputs_have x p inputs) 0)
+
+-- 6 to 11
 abbrev pub refusal : ℕ → Row → Command → Place → ℕ → ℕ → List ℕ → ℕ
 refusal n x c p entries inputs kinds =
     check 6 (unused_zero x c)
     (check 7 (handles_filled x p c)
     (check 8 (kinds_fit x kinds c) (check 9 (in_word n x c) (check 10 (tables_have x p entries) (check 11 (inputs_have x p inputs) 0)))))
-
--- 10 after the number of the fields, as the code tells it
-abbrev pub value_due : ℕ → Place → ℕ → ℕ
-value_due zero p entries = check 10 (nat_lt p.handles entries) 0
-value_due (suc r) p entries = suc r
 
 -- 12 and 13
 abbrev pub supplied : Row → Place → Sizes → Verdict → Verdict
@@ -135,9 +138,9 @@ unfoldable pub judged : ℕ → Row → Command → Place → Sizes → List ℕ
 judged n x c p z kinds next = told (refusal n x c p z.one z.inputs kinds) (supplied x p z next)
 
 -- 5: 'code not 1 to 12'
-abbrev pub looked_up : ℕ → Lookup → Command → Place → Sizes → List ℕ → Verdict
-looked_up n (Found x) c p z kinds = judged n (row n x) c p z kinds (Accepted x)
-looked_up n Missing c p z kinds = Refused 5
+abbrev pub looked_up : ℕ → Result Code Refusal → Command → Place → Sizes → List ℕ → Verdict
+looked_up n (Ok x) c p z kinds = judged n (row n x) c p z kinds (Accepted x)
+looked_up n (Err r) c p z kinds = Refused (table.number r)
 
 unfoldable pub verdict : ℕ → Command → Place → Sizes → List ℕ → Verdict
 verdict n c p z kinds = test 4 (sound p z kinds) (looked_up n (find c.code) c p z kinds)

@@ -2,6 +2,8 @@
 ghost use Rattle.std.specs.Prelude.{◌≡◌};
 ghost use Rattle.machine.specs.Table as spec;
 
+use super::refusal::Refusal;
+
 // Three words.
 #[derive(Clone, Copy)]
 pub struct Command {
@@ -26,29 +28,27 @@ pub enum Code {
     Below,
 }
 
-// The command of a code word, if it has one.
-#[derive(Clone, Copy)]
-pub enum Lookup {
-    Found(Code),
-    Missing,
-}
+// The command of a code word.
+impl TryFrom<u32> for Code {
+    type Error = Refusal;
 
-pub fn find(code: u32) -> Lookup
-    ensures { result ≡ spec.find code }
-{
-    match code {
-        1 => Lookup::Found(Code::Store),
-        2 => Lookup::Found(Code::Add),
-        3 => Lookup::Found(Code::Subtract),
-        4 => Lookup::Found(Code::AddConstant),
-        5 => Lookup::Found(Code::TimesConstant),
-        6 => Lookup::Found(Code::Multiply),
-        7 => Lookup::Found(Code::Reshare),
-        8 => Lookup::Found(Code::Bits),
-        9 => Lookup::Found(Code::Bit),
-        10 => Lookup::Found(Code::Equal),
-        11 => Lookup::Found(Code::Open),
-        12 => Lookup::Found(Code::Below),
-        _ => Lookup::Missing,
+    ghost try_from_gives = { λ code r. r ≡ spec.find code };
+
+    fn try_from(code: u32) -> Result<Code, Refusal> {
+        match code {
+            1 => Ok(Code::Store),
+            2 => Ok(Code::Add),
+            3 => Ok(Code::Subtract),
+            4 => Ok(Code::AddConstant),
+            5 => Ok(Code::TimesConstant),
+            6 => Ok(Code::Multiply),
+            7 => Ok(Code::Reshare),
+            8 => Ok(Code::Bits),
+            9 => Ok(Code::Bit),
+            10 => Ok(Code::Equal),
+            11 => Ok(Code::Open),
+            12 => Ok(Code::Below),
+            _ => Err(Refusal::UnknownCode),
+        }
     }
 }

@@ -1,17 +1,18 @@
 // When a command is turned down, up to number 11; a protocol itself tells 12 and 13. Nothing here writes, and nothing sees a share, an
 // input, a tape word or a received word.
-ghost use Rattle.std.specs.Prelude.{◌≡◌, ◌&&◌, [], ◌≤◌, length, take, nat_le, nat_lt, nat_eq};
+ghost use Rattle.std.specs.Prelude.{◌≡◌, ◌&&◌, ◌≤◌, length, take, nat_le, nat_lt, nat_eq};
 ghost use Rattle.protocols.specs.Word.{modulus, sub};
 ghost use Rattle.protocols.specs.Place.{count, every};
 ghost use Rattle.protocols.specs.Counts.{due};
-ghost use Rattle.machine.specs.declared.code.Code.TheVariants.{Store};
+ghost use Rattle.machine.specs.Refusal.{number_of};
 ghost use Rattle.machine.specs.Table.{row};
 ghost use Rattle.machine.specs.Lent.{entry};
-ghost use Rattle.machine.specs.Verdict.{same_length, within, is_kind, are_kinds, every_list, sound, check, value_due};
+ghost use Rattle.machine.specs.Verdict.{same_length, within, is_kind, are_kinds, every_list, sound, check};
 ghost use Rattle.machine.specs.Verdict as spec;
 
 use super::code::{Code, Command};
 use super::lent::Sizes;
+use super::refusal::Refusal;
 use protocols::place::{Drawn, Place, Received};
 use protocols::ring;
 
@@ -20,41 +21,29 @@ use protocols::ring;
 fn same_length(z: Sizes) -> bool
     ensures { result ≡ same_length z }
 {
-    (z.one == z.kinds) & ((z.two == z.kinds) & (z.three == z.kinds))
+    (z.one == z.kinds) & (z.two == z.kinds) & (z.three == z.kinds)
 }
 
+// (This and the next are no trait of ours: two records of other fields, each compared once.)
 fn at_most_drawn(a: Drawn, b: Drawn) -> bool
     ensures { result ≡ every (λ i. nat_le (count i a) (count i b)) }
 {
-    (a.provider <= b.provider) & ((a.one <= b.one) & ((a.two <= b.two) & (a.three <= b.three)))
+    (a.provider <= b.provider) & (a.one <= b.one) & (a.two <= b.two) & (a.three <= b.three)
 }
 
 fn at_most_received(a: Received, b: Received) -> bool
     ensures { result ≡ every_list (λ i. nat_le (due i a) (due i b)) }
 {
-    (a.one <= b.one) & ((a.two <= b.two) & ((a.three <= b.three) & (a.controller <= b.controller)))
+    (a.one <= b.one) & (a.two <= b.two) & (a.three <= b.three) & (a.controller <= b.controller)
 }
 
 fn within_lists(p: Place, z: Sizes) -> bool
     ensures { result ≡ within p z }
 {
-    let drawn = p.drawn;
-    let tapes = z.tapes;
-    let received = p.received;
-    let lists = z.received;
     (p.handles <= z.one)
-        & ((p.inputs <= z.inputs)
-            & (at_most_drawn(drawn, tapes) & at_most_received(received, lists)))
-}
-
-// Where the first n kinds end, or all of them.
-fn end_of(kinds: &[u32], n: usize) -> usize
-    ensures { (take n kinds.now ≡ take result kinds.now) × (result ≤ length kinds.now) }
-{
-    if n < kinds.len() {
-        return n;
-    }
-    kinds.len()
+        & (p.inputs <= z.inputs)
+        & at_most_drawn(p.drawn, z.tapes)
+        & at_most_received(p.received, z.received)
 }
 
 // A kind less 1: it has no bit but the lowest just where the kind is 1 or 2.
@@ -68,12 +57,10 @@ fn less_one(kind: u32) -> u32
 fn are_kinds(kinds: &[u32], n: usize) -> bool
     ensures { result ≡ are_kinds (take n kinds.now) }
 {
-    let end = end_of(kinds, n);
-    let mut seen: u32 = 0;
-    let mut i: usize = 0;
-    while i < end {
-        seen = seen | less_one(kinds[i]);
-        i += 1;
+    let first = &kinds[..n.min(kinds.len())];
+    let mut seen = 0;
+    for kind in first {
+        seen |= less_one(*kind);
     }
     seen < 2
 }
@@ -81,8 +68,7 @@ fn are_kinds(kinds: &[u32], n: usize) -> bool
 pub(crate) fn is_sound(p: Place, z: Sizes, kinds: &[u32]) -> bool
     ensures { result ≡ sound p z kinds.now }
 {
-    let handles = p.handles;
-    same_length(z) & (within_lists(p, z) & are_kinds(kinds, handles))
+    same_length(z) & within_lists(p, z) & are_kinds(kinds, p.handles)
 }
 
 // ---- numbers 6 to 9: the fields a and b
@@ -94,116 +80,132 @@ fn filled(p: Place, h: u32) -> bool
 }
 
 // One handle.
-fn operand(h: u32, kind: u32, p: Place, kinds: &[u32]) -> u32
+fn operand(h: u32, kind: u32, p: Place, kinds: &[u32]) -> Result<(), Refusal>
     requires { p.handles ≤ length kinds.now }
-    ensures { result ≡ check 7 (spec.filled p h) (check 8 (nat_eq (entry kinds.now h) kind) 0) }
+    ensures { number_of result ≡ check 7 (spec.filled p h) (check 8 (nat_eq (entry kinds.now h) kind) 0) }
 {
     if !filled(p, h) {
-        return 7;
+        return Err(Refusal::HandleNotFilled);
     }
     if kinds[h as usize - 1] != kind {
-        return 8;
+        return Err(Refusal::WrongKind);
     }
-    0
+    Ok(())
 }
 
 // Two handles of ring values.
-fn pair(c: Command, p: Place, kinds: &[u32]) -> u32
+fn pair(c: Command, p: Place, kinds: &[u32]) -> Result<(), Refusal>
     requires { p.handles ≤ length kinds.now }
-    ensures { result ≡ check 7 (spec.filled p c.a && spec.filled p c.b) (check 8 (nat_eq (entry kinds.now c.a) 1 && nat_eq (entry kinds.now c.b) 1) 0) }
+    ensures { number_of result ≡ check 7 (spec.filled p c.a && spec.filled p c.b) (check 8 (nat_eq (entry kinds.now c.a) 1 && nat_eq (entry kinds.now c.b) 1) 0) }
 {
     if !(filled(p, c.a) & filled(p, c.b)) {
-        return 7;
+        return Err(Refusal::HandleNotFilled);
     }
     let kind_a = kinds[c.a as usize - 1];
     let kind_b = kinds[c.b as usize - 1];
     if !((kind_a == 1) & (kind_b == 1)) {
-        return 8;
+        return Err(Refusal::WrongKind);
     }
-    0
+    Ok(())
 }
 
 // One handle of a ring value, b being unused.
-fn single(c: Command, p: Place, kinds: &[u32]) -> u32
+fn single(c: Command, p: Place, kinds: &[u32]) -> Result<(), Refusal>
     requires { p.handles ≤ length kinds.now }
-    ensures { result ≡ check 6 (nat_eq c.b 0) (check 7 (spec.filled p c.a) (check 8 (nat_eq (entry kinds.now c.a) 1) 0)) }
+    ensures { number_of result ≡ check 6 (nat_eq c.b 0) (check 7 (spec.filled p c.a) (check 8 (nat_eq (entry kinds.now c.a) 1) 0)) }
 {
     if c.b != 0 {
-        return 6;
+        return Err(Refusal::FieldNotZero);
     }
     operand(c.a, 1, p, kinds)
 }
 
 // One handle of a bit word, and a position in it.
-fn position(c: Command, p: Place, kinds: &[u32]) -> u32
+fn position(c: Command, p: Place, kinds: &[u32]) -> Result<(), Refusal>
     requires { p.handles ≤ length kinds.now }
-    ensures { result ≡ check 7 (spec.filled p c.a) (check 8 (nat_eq (entry kinds.now c.a) 2) (check 9 (nat_lt c.b 32) 0)) }
+    ensures { number_of result ≡ check 7 (spec.filled p c.a) (check 8 (nat_eq (entry kinds.now c.a) 2) (check 9 (nat_lt c.b 32) 0)) }
 {
-    let number = operand(c.a, 2, p, kinds);
-    if number != 0 {
-        return number;
-    }
+    operand(c.a, 2, p, kinds)?;
     if 32 <= c.b {
-        return 9;
+        return Err(Refusal::PositionOutside);
     }
-    0
+    Ok(())
+}
+
+// No field is used.
+fn unused(c: Command) -> Result<(), Refusal>
+    ensures { number_of result ≡ check 6 (nat_eq c.a 0 && nat_eq c.b 0) 0 }
+{
+    if (c.a != 0) | (c.b != 0) {
+        return Err(Refusal::FieldNotZero);
+    }
+    Ok(())
+}
+
+// By command: its fields.
+fn fields(code: Code, c: Command, p: Place, kinds: &[u32]) -> Result<(), Refusal>
+    requires { p.handles ≤ length kinds.now }
+    ensures { number_of result ≡ spec.fields 5 (row 5 code) c p kinds.now }
+{
+    match code {
+        Code::Store => unused(c),
+        Code::Add | Code::Subtract | Code::Multiply | Code::Equal | Code::Below => {
+            pair(c, p, kinds)
+        }
+        Code::AddConstant | Code::TimesConstant => operand(c.a, 1, p, kinds),
+        Code::Reshare | Code::Bits | Code::Open => single(c, p, kinds),
+        Code::Bit => position(c, p, kinds),
+    }
 }
 
 // ---- numbers 10 and 11: what is left
 
-// After the number of the fields: an entry for the new value.
-fn value_due(number: u32, p: Place, entries: usize) -> u32
-    ensures { result ≡ value_due number p entries }
+// An entry for the new value.
+fn value_due(p: Place, entries: usize) -> Result<(), Refusal>
+    ensures { number_of result ≡ check 10 (nat_lt p.handles entries) 0 }
 {
-    if number != 0 {
-        return number;
-    }
     if entries <= p.handles {
-        return 10;
+        return Err(Refusal::TablesFull);
     }
-    0
+    Ok(())
 }
 
-// Of a store, all of it: no field, an entry and an input.
-fn input_due(c: Command, p: Place, entries: usize, inputs: usize) -> u32
-    ensures { result ≡ spec.refusal 5 (row 5 Store) c p entries inputs [] }
+// An input.
+fn input_due(p: Place, inputs: usize) -> Result<(), Refusal>
+    ensures { number_of result ≡ check 11 (nat_lt p.inputs inputs) 0 }
 {
-    if (c.a != 0) | (c.b != 0) {
-        return 6;
-    }
-    if entries <= p.handles {
-        return 10;
-    }
     if inputs <= p.inputs {
-        return 11;
+        return Err(Refusal::InputsUsed);
     }
-    0
+    Ok(())
 }
 
-// The lowest number from 6 to 11 that applies, or 0.
-pub(crate) fn refusal(
+// By command: the entry and the input that it takes.
+fn room(code: Code, p: Place, entries: usize, inputs: usize) -> Result<(), Refusal>
+    ensures { number_of result ≡ spec.room (row 5 code) p entries inputs }
+{
+    match code {
+        Code::Open => Ok(()),
+        Code::Store => {
+            value_due(p, entries)?;
+            input_due(p, inputs)
+        }
+        _ => value_due(p, entries),
+    }
+}
+
+// The lowest number from 6 to 11 that applies, if one does.
+pub(crate) fn fields_and_room(
     code: Code,
     c: Command,
     p: Place,
     entries: usize,
     inputs: usize,
     kinds: &[u32],
-) -> u32
+) -> Result<(), Refusal>
     requires { p.handles ≤ length kinds.now }
-    ensures { result ≡ spec.refusal 5 (row 5 code) c p entries inputs kinds.now }
+    ensures { number_of result ≡ spec.refusal 5 (row 5 code) c p entries inputs kinds.now }
 {
-    match code {
-        Code::Store => input_due(c, p, entries, inputs),
-        Code::Add => value_due(pair(c, p, kinds), p, entries),
-        Code::Subtract => value_due(pair(c, p, kinds), p, entries),
-        Code::AddConstant => value_due(operand(c.a, 1, p, kinds), p, entries),
-        Code::TimesConstant => value_due(operand(c.a, 1, p, kinds), p, entries),
-        Code::Multiply => value_due(pair(c, p, kinds), p, entries),
-        Code::Reshare => value_due(single(c, p, kinds), p, entries),
-        Code::Bits => value_due(single(c, p, kinds), p, entries),
-        Code::Bit => value_due(position(c, p, kinds), p, entries),
-        Code::Equal => value_due(pair(c, p, kinds), p, entries),
-        Code::Open => single(c, p, kinds),
-        Code::Below => value_due(pair(c, p, kinds), p, entries),
-    }
+    fields(code, c, p, kinds)?;
+    room(code, p, entries, inputs)
 }

@@ -7,8 +7,8 @@ ghost use Rattle.machine.specs.Command.{outcome};
 ghost use Rattle.machine.specs.Command as spec;
 
 use super::answer::Answer;
-use super::code::{Command, Lookup};
-use super::{accept, code, judge};
+use super::code::{Code, Command};
+use super::{accept, judge};
 use protocols::place::Place;
 
 // Judge, then compute and write; a refused command writes nothing.
@@ -32,12 +32,19 @@ pub(crate) fn step(
     requires { sound place (sizes (lent (tables share1.old share2.old share3.old) kinds.old inputs.now (tapes provider.now tape1.now tape2.now tape3.now) (lists received1.old received2.old received3.old controller.old))) kinds.old ≡ true }
     ensures { outcome result (lent (tables share1.new share2.new share3.new) kinds.new inputs.now (tapes provider.now tape1.now tape2.now tape3.now) (lists received1.new received2.new received3.new controller.new)) ≡ spec.command 5 c place (lent (tables share1.old share2.old share3.old) kinds.old inputs.now (tapes provider.now tape1.now tape2.now tape3.now) (lists received1.old received2.old received3.old controller.old)) }
 {
-    let Lookup::Found(code) = code::find(c.code) else {
-        return Answer::untouched(5, place);
+    let code = match Code::try_from(c.code) {
+        Ok(code) => code,
+        Err(refusal) => return Answer::untouched(u32::from(refusal), place),
     };
-    let number = judge::refusal(code, c, place, share1.len(), inputs.len(), kinds);
-    if number != 0 {
-        return Answer::untouched(number, place);
+    if let Err(refusal) = judge::fields_and_room(
+        code,
+        c,
+        place,
+        share1.len(),
+        inputs.len(),
+        kinds,
+    ) {
+        return Answer::untouched(u32::from(refusal), place);
     }
     accept::accept(
         code, c, place, share1, share2, share3, kinds, inputs, provider, tape1, tape2, tape3,

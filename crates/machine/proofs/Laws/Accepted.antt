@@ -7,6 +7,7 @@ use native.Mathlib.Omega.{arith}
 use borrow.Author.Tests.{leb-true}
 use lib.ListN.{take}
 use lib.Dec.{leb}
+use Rattle.std.specs.Prelude.{Result, Ok, Err}
 use Rattle.protocols.specs.declared.place.Party.{Party}
 use Rattle.protocols.specs.declared.place.Party.TheVariants.{Provider, One, Two, Three}
 use Rattle.protocols.specs.declared.place.Place.{Place}
@@ -16,8 +17,7 @@ use Rattle.protocols.specs.Counts.{due}
 use Rattle.protocols.proofs.Laws.Deliveries.{both}
 use Rattle.machine.specs.declared.code.Command.{Command}
 use Rattle.machine.specs.declared.code.Code.{Code}
-use Rattle.machine.specs.declared.code.Lookup.{Lookup}
-use Rattle.machine.specs.declared.code.Lookup.TheVariants.{Found, Missing}
+use Rattle.machine.specs.declared.refusal.Refusal.{Refusal}
 use Rattle.machine.specs.declared.row.Row.{Row}
 use Rattle.machine.specs.declared.lent.Sizes.{Sizes}
 use Rattle.machine.specs.Table.{find, row}
@@ -90,7 +90,7 @@ every_list_lem f e controller = (all_four (f (miner one)) (f (miner two)) (f (mi
 -- ---- an accepted command
 
 pub record Passed (n : ℕ) (x : Code) (c : Command) (p : Place) (z : Sizes) (kinds : List ℕ) : Type 0 where
-  pub known : find c.code ≡ Found x
+  pub known : find c.code ≡ Ok x
   pub four : sound p z kinds ≡ true
   pub six : unused_zero (row n x) c ≡ true
   pub seven : handles_filled (row n x) p c ≡ true
@@ -107,7 +107,7 @@ all_passed n x c p z kinds e =
     let t4 = passed 4 (sound p z kinds) (looked_up n (find c.code) c p z kinds) e in
     by_lookup (find c.code) refl t4.0 t4.1
   where
-    by_row : (y : Code) → find c.code ≡ Found y → sound p z kinds ≡ true → judged n (row n y) c p z kinds (Accepted y) ≡ Accepted x → Passed n y c p z kinds × (y ≡ x)
+    by_row : (y : Code) → find c.code ≡ Ok y → sound p z kinds ≡ true → judged n (row n y) c p z kinds (Accepted y) ≡ Accepted x → Passed n y c p z kinds × (y ≡ x)
     by_row y k s f =
         let t = told_passed (refusal n (row n y) c p z.one z.inputs kinds) (supplied (row n y) p z (Accepted y)) f in
         let h = refusal_passed n (row n y) c p z.one z.inputs kinds t.0 in
@@ -128,9 +128,9 @@ all_passed n x c p z kinds e =
           accepted-same t13.1,
         )
 
-    by_lookup : (y : Lookup) → find c.code ≡ y → sound p z kinds ≡ true → looked_up n y c p z kinds ≡ Accepted x → Passed n x c p z kinds
-    by_lookup (Found y) k s f = let t = by_row y k s f in subst (λ (u : Code). Passed n u c p z kinds) t.1 t.0
-    by_lookup Missing k s f = absurd (refused_not f)
+    by_lookup : (y : Result Code Refusal) → find c.code ≡ y → sound p z kinds ≡ true → looked_up n y c p z kinds ≡ Accepted x → Passed n x c p z kinds
+    by_lookup (Ok y) k s f = let t = by_row y k s f in subst (λ (u : Code). Passed n u c p z kinds) t.1 t.0
+    by_lookup (Err r) k s f = absurd (refused_not f)
 
 -- ---- the room that is left, as sums
 

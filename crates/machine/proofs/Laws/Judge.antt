@@ -9,10 +9,11 @@ use borrow.Author.Tests.{ltb-true, leb-true, eqb-true}
 use lib.ListN.{length, take}
 use lib.Seq.{take-take, get_or-take}
 use lib.Dec.{ltb, leb, eqb}
+use Rattle.std.specs.Prelude.{Result, Ok, Err}
 use Rattle.protocols.specs.declared.place.Place.{Place}
 use Rattle.protocols.specs.Shares.{Miner, one, two, three}
-use Rattle.machine.specs.declared.code.Lookup.{Lookup}
-use Rattle.machine.specs.declared.code.Lookup.TheVariants.{Found, Missing}
+use Rattle.machine.specs.declared.refusal.Refusal.{Refusal}
+use Rattle.machine.specs.declared.code.Code.{Code}
 use Rattle.machine.specs.declared.row.Use.{Use}
 use Rattle.machine.specs.declared.row.Use.TheVariants.{Unused, Handle, Word, Position}
 use Rattle.machine.specs.declared.row.Row.{Row}
@@ -58,14 +59,14 @@ module _ (n : ℕ) (c : Command) (p : Place) (z : Sizes) (kinds : List ℕ) wher
       let t = both (meets x.a true (filled p c.a) true) (meets x.b true (filled p c.b) true) e in
       ap₂ ◌&&◌ (field_fits x.a c.a x.operands t.0) (field_fits x.b c.b x.operands t.1)
 
-  looked_up-taken : (y : Lookup) → looked_up n y c p z (take p.handles kinds) ≡ looked_up n y c p z kinds
+  looked_up-taken : (y : Result Code Refusal) → looked_up n y c p z (take p.handles kinds) ≡ looked_up n y c p z kinds
   unfolding judged
-  looked_up-taken (Found x) =
+  looked_up-taken (Ok x) =
       ap (λ (r : ℕ). told (check 6 (unused_zero (row n x) c) r) (supplied (row n x) p z (Accepted x)))
       (fits_alike (handles_filled (row n x) p c) (kinds_fit (row n x) (take p.handles kinds) c) (kinds_fit (row n x) kinds c)
       (check 9 (in_word n (row n x) c) (check 10 (tables_have (row n x) p z.one) (check 11 (inputs_have (row n x) p z.inputs) 0)))
       (kinds_fit_lem (row n x)))
-  looked_up-taken Missing = refl
+  looked_up-taken (Err r) = refl
 
   verdict-taken : verdict n c p z (take p.handles kinds) ≡ verdict n c p z kinds
   unfolding verdict

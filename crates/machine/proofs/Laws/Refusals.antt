@@ -6,6 +6,7 @@ use mathlib.Core.Logic.{◌↔◌, ◌⊎◌, inl, inr}
 use native.Mathlib.Omega.{arith}
 use lib.Pow.{pow_pos}
 use lib.ListN.{length, get_or}
+use Rattle.std.specs.Prelude.{Result, Ok}
 use Rattle.protocols.specs.declared.place.Party.{Party}
 use Rattle.protocols.specs.declared.place.Place.{Place}
 use Rattle.protocols.specs.Word.{width}
@@ -13,8 +14,7 @@ use Rattle.protocols.specs.Shares.{Miner, one}
 use Rattle.protocols.specs.Place.{tape, count, Receiver, list}
 use Rattle.protocols.specs.Counts.{due}
 use Rattle.machine.specs.declared.code.Code.{Code}
-use Rattle.machine.specs.declared.code.Lookup.{Lookup}
-use Rattle.machine.specs.declared.code.Lookup.TheVariants.{Found}
+use Rattle.machine.specs.declared.refusal.Refusal.{Refusal}
 use Rattle.machine.specs.declared.row.Use.TheVariants.{Unused, Handle, Position}
 use Rattle.machine.specs.declared.code.Command.{Command}
 use Rattle.machine.specs.Table.{find, row}
@@ -130,7 +130,7 @@ module _ (n : ℕ) (c : Command) (p : Place) (l : Lent) where
 
   -- ---- 6 to 13, where the command is x
 
-  module _ (x : Code) (e : find c.code ≡ Found x) where
+  module _ (x : Code) (e : find c.code ≡ Ok x) where
     test_6 : Decides (Applies n c p l 6) (unused_zero (row n x) c)
     test_6 = same_as (λ s. unused_field x e s.0 s.1.0 s.1.1) from (some_field (λ f. if_unused (use_of f (row n x)) (by_eq (field f c) 0)))
       where
@@ -196,7 +196,7 @@ module _ (n : ℕ) (c : Command) (p : Place) (l : Lent) where
         to h =
             let s = takes_input n x (omega arith) in
             let g = subst Line s h in
-            inputs_used (e ∙ ap {B = Lookup} Found s) (omega arith)
+            inputs_used (e ∙ ap {B = Result Code Refusal} Ok s) (omega arith)
 
         from : Applies n c p l 11 → Line x
         from (inputs_used k h) = subst Line (same_code k e) (omega arith)
@@ -233,7 +233,7 @@ module _ (n : ℕ) (c : Command) (p : Place) (l : Lent) where
 
   -- ---- 5, and all of it
 
-  from_5 : {y : Lookup} → Known 1 c.code y → find c.code ≡ y → Judged (Applies n c p l) 5 (looked_up n y c p (sizes l) l.kinds)
+  from_5 : {y : Result Code Refusal} → Known 1 c.code y → find c.code ≡ y → Judged (Applies n c p l) 5 (looked_up n y c p (sizes l) l.kinds)
   from_5 (found x f g) e = lower no_5 (from_6 x e)
     where
       no_5 : ¬ Applies n c p l 5

@@ -5,10 +5,11 @@ use mathlib.Core.Bool.{Bool, true, false, cond}
 use native.Mathlib.Omega.{arith}
 use borrow.Author.Tests.{eqb-true}
 use lib.Dec.{eqb, lit≤}
+use Rattle.std.specs.Prelude.{Result, Ok, Err}
 use Rattle.machine.specs.declared.code.Code.{Code}
 use Rattle.machine.specs.declared.code.Code.TheVariants.{Store, Add, Subtract, AddConstant, TimesConstant, Multiply, Reshare, Bits, Bit, Equal, Open, Below}
-use Rattle.machine.specs.declared.code.Lookup.{Lookup}
-use Rattle.machine.specs.declared.code.Lookup.TheVariants.{Found, Missing}
+use Rattle.machine.specs.declared.refusal.Refusal.{Refusal}
+use Rattle.machine.specs.declared.refusal.Refusal.TheVariants.{UnknownCode}
 use Rattle.machine.specs.Table.{find, row, opens}
 use Rattle.machine.proofs.Laws.Tests.{Decides, holds, fails, stable, by_eq}
 
@@ -47,14 +48,14 @@ takes_input n Below h = absurd (omega arith)
 -- ---- the code words from 1 to 12 have a command
 
 -- what is looked up for the code word k, of the codes from j
-pub data Known (j k : ℕ) : Lookup → Type 0 where
-  found : (x : Code) → j ≤ k → k ≤ 12 → Known j k (Found x)
-  missing : ¬ ((j ≤ k) × (k ≤ 12)) → Known j k Missing
+pub data Known (j k : ℕ) : Result Code Refusal → Type 0 where
+  found : (x : Code) → j ≤ k → k ≤ 12 → Known j k (Ok x)
+  missing : ¬ ((j ≤ k) × (k ≤ 12)) → Known j k (Err UnknownCode)
 
-or_next : {k : ℕ} {y : Lookup} (j : ℕ) (x : Code) → j ≤ 12 → Known (suc j) k y → Known j k (cond (eqb k j) (Found x) y)
+or_next : {k : ℕ} {y : Result Code Refusal} (j : ℕ) (x : Code) → j ≤ 12 → Known (suc j) k y → Known j k (cond (eqb k j) (Ok x) y)
 or_next {k} j x h next = go (by_eq k j) next
   where
-    go : {b : Bool} {y : Lookup} → Decides (¬ (k ≡ j)) b → Known (suc j) k y → Known j k (cond b (Found x) y)
+    go : {b : Bool} {y : Result Code Refusal} → Decides (¬ (k ≡ j)) b → Known (suc j) k y → Known j k (cond b (Ok x) y)
     go (holds n) t = found x (omega (arith, stable k j n)) (omega (arith, stable k j n))
     go (fails n) (found z f g) = found z (omega arith) g
     go (fails n) (missing m) = missing (λ q. m (omega arith))
@@ -66,30 +67,30 @@ known k =
     (or_next 9 Bit (omega arith) (or_next 10 Equal (omega arith) (or_next 11 Open (omega arith) (or_next 12 Below (omega arith)
     (missing (λ q. omega arith)))))))))))))
 
-pub same_code : {y : Lookup} {x z : Code} → y ≡ Found x → y ≡ Found z → x ≡ z
+pub same_code : {y : Result Code Refusal} {x z : Code} → y ≡ Ok x → y ≡ Ok z → x ≡ z
 same_code {x} e f = ap code_of (sym e ∙ f)
   where
-    code_of : Lookup → Code
-    code_of (Found y) = y
-    code_of Missing = x
+    code_of : Result Code Refusal → Code
+    code_of (Ok y) = y
+    code_of (Err r) = x
 
 -- ---- the code of open
 
-missing_not : {x : Code} → Missing ≡ Found x → ⊥
+missing_not : {x : Code} {r : Refusal} → Err r ≡ Ok x → ⊥
 missing_not e = subst tells e tt
   where
-    tells : Lookup → Type 0
-    tells (Found x) = ⊥
-    tells Missing = Unit {0}
+    tells : Result Code Refusal → Type 0
+    tells (Ok x) = ⊥
+    tells (Err r) = Unit {0}
 
 -- whatever command is found for the code k, it opens just where k is 11
-abbrev pub OpensAt11 : ℕ → ℕ → Lookup → Type 0
-OpensAt11 n k y = (x : Code) → y ≡ Found x → eqb k 11 ≡ opens (row n x)
+abbrev pub OpensAt11 : ℕ → ℕ → Result Code Refusal → Type 0
+OpensAt11 n k y = (x : Code) → y ≡ Ok x → eqb k 11 ≡ opens (row n x)
 
-at_code : (n k j : ℕ) (y : Code) (rest : Lookup) → eqb j 11 ≡ opens (row n y) → OpensAt11 n k rest → OpensAt11 n k (cond (eqb k j) (Found y) rest)
+at_code : (n k j : ℕ) (y : Code) (rest : Result Code Refusal) → eqb j 11 ≡ opens (row n y) → OpensAt11 n k rest → OpensAt11 n k (cond (eqb k j) (Ok y) rest)
 at_code n k j y rest h r = by_test (eqb k j) refl
   where
-    by_test : (b : Bool) → eqb k j ≡ b → OpensAt11 n k (cond b (Found y) rest)
+    by_test : (b : Bool) → eqb k j ≡ b → OpensAt11 n k (cond b (Ok y) rest)
     by_test true e x f = ap (λ (i : ℕ). eqb i 11) (eqb-true k j e) ∙ h ∙ ap (λ (z : Code). opens (row n z)) (same_code refl f)
     by_test false e x f = r x f
 

@@ -216,7 +216,6 @@ NoKind k = (¬ (k ≡ 1)) × (¬ (k ≡ 2))
 
 -- the first k of a list that has as many
 pub by_kinds : (k : ℕ) (l : List ℕ) → k ≤ length l → Decides ((i : ℕ) × (i < k) × NoKind (get_or l i 0)) (are_kinds (take k l))
-unfolding are_kinds
 by_kinds zero l h = holds (λ s. not-suc-le-zero s.1)
 by_kinds (suc k) [] h = absurd (not-suc-le-zero h)
 by_kinds (suc k) (m ∷ l) h = same_as to (λ s. from s.0 s.1 s.2) (and (or (by_eq m 1) (by_eq m 2)) (λ n. by_kinds k l (le_of_suc-le-suc h)))

@@ -1,15 +1,7 @@
--- The kinds seen so far, and the rest.
-use Rattle.std.proofs.Common.{◌≡◌, ◌&&◌, ◌-◌, ◌≤◌, nat_lt, length, take}
+-- The kinds seen so far are each 1 or 2 just where their word has no bit but the lowest.
+use Rattle.std.proofs.Common.{◌≡◌, nat_lt, take}
 use Rattle.machine.specs.Verdict.{are_kinds}
-use Rattle.machine.proofs.Laws.KindTest.{rest}
 use Rattle.machine.proofs.judge.are_kinds.Given as goal
 
-abbrev pub invariant-loop-i : goal.invariant-loop-i
-invariant-loop-i l = record {
-  within : l.end ≤ length l.kinds;
-  in_range : l.i ≤ l.end;
-  all : are_kinds (take l.n l.kinds) ≡ (nat_lt l.seen 2 && rest l.kinds l.end l.i);
-}
-
-abbrev pub decreases-loop-i : goal.decreases-loop-i
-decreases-loop-i l = l.end - l.i
+abbrev pub invariant-loop-kind : goal.invariant-loop-kind
+invariant-loop-kind l = nat_lt l.seen 2 ≡ are_kinds (take l.kind-index l.first)

@@ -3,22 +3,23 @@ use Rattle.machine.proofs.Laws.Tested.{kinds-long, begun}
 use Rattle.machine.proofs.Laws.Step.{unknown_is, refused_is, passed_is}
 use Rattle.machine.proofs.step.step.Goals as goal
 
-pub returns-in_default : goal.returns-in_default
-returns-in_default c =
-    unknown_is c.args.c c.args.place _ c.requires c.find.ensures c.in_default.is c.untouched.ensures
+pub returns-in-Err : goal.returns-in-Err
+returns-in-Err c =
+    unknown_is c.args.c c.args.place _ c.requires c.try_from.ensures c.in-Err.is (rw c.from.ensures at c.untouched.ensures)
 
-pub refusal-number-requires : goal.refusal-number-requires
-refusal-number-requires c =
+pub fields_and_room-requires : goal.fields_and_room-requires
+fields_and_room-requires c =
     kinds-long c.args.place _ c.requires
 
-pub returns-then-number-ne0 : goal.returns-then-number-ne0
-returns-then-number-ne0 c =
-    refused_is c.args.c c.args.place _ c.requires _ c.find.ensures c.in-Found.is c.refusal-number.ensures c.if-number-ne0.true c.untouched-then-number-ne0.ensures
+pub returns-in-Err-fields_and_room : goal.returns-in-Err-fields_and_room
+returns-in-Err-fields_and_room c =
+    refused_is c.args.c c.args.place _ c.requires _ c.try_from.ensures c.in-Ok.is c.in-Err-fields_and_room.refusal c.in-Err-fields_and_room.ensures
+    (rw c.from-in-Err-fields_and_room.ensures at c.untouched-in-Err-fields_and_room.ensures)
 
 pub accept-requires : goal.accept-requires
 accept-requires c =
-    begun _ c.args.c c.args.place _ c.requires c.refusal-number.ensures c.if-number-ne0.false
+    begun _ c.args.c c.args.place _ c.requires c.in_default.ensures
 
 pub returns : goal.returns
 returns c =
-    passed_is c.args.c c.args.place _ c.requires _ c.find.ensures c.in-Found.is c.refusal-number.ensures c.if-number-ne0.false c.accept.ensures
+    passed_is c.args.c c.args.place _ c.requires _ c.try_from.ensures c.in-Ok.is c.in_default.ensures c.accept.ensures
