@@ -21,3 +21,4 @@ pub mod Blind
 pub mod WordForm
 pub mod Worked
 pub mod Claims
+pub mod Printed

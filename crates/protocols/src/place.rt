@@ -1,9 +1,12 @@
 // The place record, and draws from a tape.
-ghost use Rattle.std.specs.Prelude.{◌≡◌};
-ghost use Rattle.protocols.specs.Place.{count, with_count, draw};
+ghost use Rattle.std.specs.Prelude.{◌≡◌, Some};
+ghost use Rattle.protocols.specs.Place.{count, with_count, draw, place_of};
+ghost use Rattle.protocols.specs.Printed as printed;
+
+use std::fmt;
 
 // Who draws: the provider, or a miner.
-#[derive(Clone, Copy)]
+#[derive(Clone, Copy, PartialEq, Eq)]
 pub enum Party {
     Provider,
     One,
@@ -13,7 +16,7 @@ pub enum Party {
 
 // Words drawn from each tape.
 #[repr(C)]
-#[derive(Clone, Copy)]
+#[derive(Clone, Copy, Default)]
 pub struct Drawn {
     pub provider: usize,
     pub one: usize,
@@ -23,7 +26,7 @@ pub struct Drawn {
 
 // Words in each received list.
 #[repr(C)]
-#[derive(Clone, Copy)]
+#[derive(Clone, Copy, Default)]
 pub struct Received {
     pub one: usize,
     pub two: usize,
@@ -33,7 +36,7 @@ pub struct Received {
 
 // The place record: filled handles, inputs used, words drawn, words received.
 #[repr(C)]
-#[derive(Clone, Copy)]
+#[derive(Clone, Copy, Default)]
 pub struct Place {
     pub handles: usize,
     pub inputs: usize,
@@ -96,5 +99,71 @@ impl Place {
                 received,
             },
         )
+    }
+}
+
+// The counts in the record's order.
+impl From<[usize; 10]> for Place {
+    ghost from_gives = { λ counts p. p ≡ place_of counts };
+
+    fn from(counts: [usize; 10]) -> Place {
+        Place {
+            handles: counts[0],
+            inputs: counts[1],
+            drawn: Drawn {
+                provider: counts[2],
+                one: counts[3],
+                two: counts[4],
+                three: counts[5],
+            },
+            received: Received {
+                one: counts[6],
+                two: counts[7],
+                three: counts[8],
+                controller: counts[9],
+            },
+        }
+    }
+}
+
+impl fmt::Display for Drawn {
+    ghost output = { λ n. Some (printed.drawn n) };
+
+    fn fmt<W: fmt::Write>(&self, f: &mut fmt::Formatter<W>) -> fmt::Result {
+        let Drawn {
+            provider,
+            one,
+            two,
+            three,
+        } = *self;
+        write!(f, "{provider} {one} {two} {three}")
+    }
+}
+
+impl fmt::Display for Received {
+    ghost output = { λ n. Some (printed.received n) };
+
+    fn fmt<W: fmt::Write>(&self, f: &mut fmt::Formatter<W>) -> fmt::Result {
+        let Received {
+            one,
+            two,
+            three,
+            controller,
+        } = *self;
+        write!(f, "{one} {two} {three} {controller}")
+    }
+}
+
+impl fmt::Display for Place {
+    ghost output = { λ p. Some (printed.place p) };
+
+    fn fmt<W: fmt::Write>(&self, f: &mut fmt::Formatter<W>) -> fmt::Result {
+        let Place {
+            handles,
+            inputs,
+            drawn,
+            received,
+        } = *self;
+        write!(f, "{handles} {inputs} {drawn} {received}")
     }
 }
