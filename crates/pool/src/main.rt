@@ -1,9 +1,6 @@
 // Reads a session from standard input, runs it and prints its outcome.
 #![tactic(auto)]
 
-mod input;
-
-use input::Input;
 use session::pool::{BYTES, TEXT};
 use session::session::WORDS;
 use std::io;
@@ -45,9 +42,9 @@ fn failed(rt: &impl Eprint, what: &str, error: io::Error) -> ExitCode {
 
 fn main(rt: HostRuntime) -> ExitCode {
     let mut file = [0u8; BYTES + 1];
-    let n = match input::read_whole(&mut rt.stdin(), &mut file) {
-        Input::Whole(n) => n,
-        Input::Failed(error) => return failed(&rt, "standard input", error),
+    let n = match reading::read_whole(&mut rt.stdin(), &mut file) {
+        Ok(n) => n,
+        Err(error) => return failed(&rt, "standard input", error),
     };
     match print_session(&rt, &file[..n]) {
         Ok(()) => ExitCode::SUCCESS,

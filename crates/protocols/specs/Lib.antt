@@ -22,3 +22,4 @@ pub mod Blind
 pub mod WordForm
 pub mod Worked
 pub mod Claims
+pub mod Printed

@@ -114,6 +114,15 @@ to_controller s = lists [] [] [] (in_order s)
 
 -- ---- the place record
 
+-- of ten counts: filled handles, inputs used, the words drawn from each tape, the words in each received list
+abbrev pub place_of : List ℕ → Place
+place_of l = record {
+  handles = slice_index l 0;
+  inputs = slice_index l 1;
+  drawn = counts (slice_index l 2) (slice_index l 3) (slice_index l 4) (slice_index l 5);
+  received = record { one = slice_index l 6; two = slice_index l 7; three = slice_index l 8; controller = slice_index l 9 };
+}
+
 -- moved on by the words drawn
 abbrev pub advance : Place → Drawn → Place
 advance p n = record { handles = p.handles; inputs = p.inputs; drawn = plus p.drawn n; received = p.received }

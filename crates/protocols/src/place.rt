@@ -1,7 +1,11 @@
 // The place record, and draws from a tape.
-ghost use Rattle.std.specs.Prelude.{◌≡◌, drop};
-ghost use Rattle.protocols.specs.Place.{count, with_count, draw};
+ghost use Rattle.std.specs.Prelude.{◌≡◌, Some, drop};
+ghost use Rattle.protocols.specs.Place.{count, with_count, draw, place_of};
 ghost use Rattle.protocols.specs.Lent.{drawn};
+ghost use Rattle.protocols.specs.Printed as printed;
+
+use std::fmt;
+
 
 // Who draws: the provider, or a miner.
 #[derive(Clone, Copy, PartialEq, Eq)]
@@ -91,5 +95,71 @@ impl Place {
         };
         let drawn = self.drawn.with(party, at + N);
         Some((words, Place { drawn, ..self }))
+    }
+}
+
+// The counts in the record's order.
+impl From<[usize; 10]> for Place {
+    ghost from_gives = { λ counts p. p ≡ place_of counts };
+
+    fn from(counts: [usize; 10]) -> Place {
+        Place {
+            handles: counts[0],
+            inputs: counts[1],
+            drawn: Drawn {
+                provider: counts[2],
+                one: counts[3],
+                two: counts[4],
+                three: counts[5],
+            },
+            received: Received {
+                one: counts[6],
+                two: counts[7],
+                three: counts[8],
+                controller: counts[9],
+            },
+        }
+    }
+}
+
+impl fmt::Display for Drawn {
+    ghost output = { λ n. Some (printed.drawn n) };
+
+    fn fmt<W: fmt::Write>(&self, f: &mut fmt::Formatter<W>) -> fmt::Result {
+        let Drawn {
+            provider,
+            one,
+            two,
+            three,
+        } = *self;
+        write!(f, "{provider} {one} {two} {three}")
+    }
+}
+
+impl fmt::Display for Received {
+    ghost output = { λ n. Some (printed.received n) };
+
+    fn fmt<W: fmt::Write>(&self, f: &mut fmt::Formatter<W>) -> fmt::Result {
+        let Received {
+            one,
+            two,
+            three,
+            controller,
+        } = *self;
+        write!(f, "{one} {two} {three} {controller}")
+    }
+}
+
+impl fmt::Display for Place {
+    ghost output = { λ p. Some (printed.place p) };
+
+    fn fmt<W: fmt::Write>(&self, f: &mut fmt::Formatter<W>) -> fmt::Result {
+        let Place {
+            handles,
+            inputs,
+            drawn,
+            received,
+        } = *self;
+        write!(f, "{handles} {inputs} {drawn} {received}")
     }
 }

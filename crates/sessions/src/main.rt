@@ -8,7 +8,7 @@ ghost use Rattle.std.specs.Io.{ReadsAtMost};
 use lending::Lending;
 use session::pool::BYTES;
 use std::env::FillError;
-use std::io::{Read, Write};
+use std::io::Write;
 use std::process::ExitCode;
 use std::rt::{Env, Files};
 use std::{fs, io};
@@ -67,21 +67,6 @@ fn print_all(out: &mut impl Write, file: &[u8]) -> io::Result<()> {
     )
 }
 
-// Reads until the input ends or the buffer is full, and answers how many bytes stand at its start.
-fn read_full(from: &mut impl Read, buffer: &mut [u8]) -> io::Result<usize>
-    ensures { ReadsAtMost result buffer.new }
-{
-    let mut done = 0;
-    while done < buffer.len() {
-        let more = from.read(&mut buffer[done..])?;
-        if more == 0 {
-            break;
-        }
-        done += more;
-    }
-    Ok(done)
-}
-
 // Puts a file's bytes at the start of the buffer. A path that is not UTF-8 is refused, as `std::fs` has it.
 fn read_file(rt: &impl Files, path: &[u8], buffer: &mut [u8]) -> io::Result<usize>
     ensures { ReadsAtMost result buffer.new }
@@ -89,7 +74,7 @@ fn read_file(rt: &impl Files, path: &[u8], buffer: &mut [u8]) -> io::Result<usiz
     let Ok(path) = str::from_utf8(path) else {
         return Err(io::Error::from(io::ErrorKind::InvalidInput));
     };
-    read_full(&mut fs::open(rt, path)?, buffer)
+    reading::read_whole(&mut fs::open(rt, path)?, buffer)
 }
 
 // A file that can't be read is reported on standard error; where that fails too, the exit status still says it.
