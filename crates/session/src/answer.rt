@@ -2,10 +2,12 @@
 ghost use Rattle.std.specs.Prelude.{◌≡◌};
 ghost use Rattle.machine.specs.Run.{empty};
 ghost use Rattle.session.specs.Session as spec;
+ghost use Rattle.machine.specs.Refusal.{number};
 
+use machine::refusal::Refusal;
 use protocols::place::{Drawn, Place, Received};
 
-// Commands done, the place record, and 0 or the refusal number.
+// Commands done, the place record, and 0 or the refusal number: a number, and no Result, since C reads it.
 #[repr(C)]
 #[derive(Clone, Copy)]
 pub struct SessionAnswer {
@@ -37,12 +39,12 @@ pub(crate) fn empty_place() -> Place
 }
 
 // Of a session that is turned down as a whole.
-pub(crate) fn refused(number: u32) -> SessionAnswer
-    ensures { result ≡ spec.answer 0 empty number }
+pub(crate) fn refused(refusal: Refusal) -> SessionAnswer
+    ensures { result ≡ spec.answer 0 empty (number refusal) }
 {
     SessionAnswer {
         done: 0,
         place: empty_place(),
-        number,
+        number: u32::from(refusal),
     }
 }

@@ -1,70 +1,74 @@
 // The contents of a session sheet, told from the file's bytes: nothing is written before they are known to be right.
-ghost use Rattle.std.specs.Prelude.{◌≡◌, ◌/◌, ◌≤◌, length, take};
+ghost use Rattle.std.specs.Prelude.{◌≡◌, false, ◌/◌, ◌≤◌, length, take, MatchResult, IsTrue};
+ghost use Rattle.machine.specs.Refusal.{number_of};
 ghost use Rattle.session.specs.Words.{words_of};
-ghost use Rattle.session.specs.Contents.{chained, limits};
-ghost use Rattle.session.specs.Contents as spec;
-ghost use Rattle.session.specs.Session.{tested};
+ghost use Rattle.session.specs.Contents.{limits, within};
+ghost use Rattle.session.specs.Session as spec;
 
 use super::words::word_at;
+use machine::refusal::Refusal;
 
 // Most words of each body.
 const LIMITS: [u32; 6] = [384, 128, 256, 2304, 2304, 2304];
 
+// Whether the file is of words, and has the contents.
+fn is_whole(file: &[u8]) -> bool
+    ensures { result ≡ spec.is_whole file.now }
+{
+    48 <= file.len() && file.len() % 4 == 0
+}
+
 // Whether each body starts where the last one ended, and the last one ends the file. Sums are of 64 bits, so none wraps.
 fn is_chained(file: &[u8]) -> bool
     requires { 48 ≤ length file.now }
-    ensures { result ≡ chained 12 (take 12 (words_of file.now)) (length file.now / 4) }
+    ensures { result ≡ spec.is_chained file.now }
 {
     let mut at: usize = 12;
-    let mut k: usize = 0;
-    while k < 6 {
-        let start = word_at(file, 8 * k) as usize;
-        let count = word_at(file, 8 * k + 4) as usize;
+    for pair in file.chunks_exact(8).take(6) {
+        let start = word_at(pair, 0) as usize;
+        let count = word_at(pair, 4) as usize;
         if start != at {
             return false;
         }
         at = start + count;
-        k += 1;
     }
     at == file.len() / 4
 }
 
 // Whether each count is within its limit.
-fn is_within(file: &[u8]) -> bool
+fn fits_limits(file: &[u8]) -> bool
     requires { 48 ≤ length file.now }
-    ensures { result ≡ spec.within limits (take 12 (words_of file.now)) }
+    ensures { result ≡ within limits (take 12 (words_of file.now)) }
 {
-    let mut k: usize = 0;
-    while k < 6 {
-        if LIMITS[k] < word_at(file, 8 * k + 4) {
-            return false;
-        }
-        k += 1;
-    }
-    true
+    let (pairs, _) = file.as_chunks::<8>();
+    LIMITS
+        .iter()
+        .zip(pairs)
+        .all(|(limit, pair)| word_at(pair, 4) <= *limit)
 }
 
-// The lowest number of 1 to 4 that applies, or 0; `lent` tells that what is lent will do.
-pub(crate) fn refusal(file: &[u8], lent: bool) -> u32
-    ensures { result ≡ tested file.now lent }
+// Whether no body is over its limit, and the commands are in threes.
+fn is_within(file: &[u8]) -> bool
+    requires { 48 ≤ length file.now }
+    ensures { result ≡ spec.is_within file.now }
 {
-    if file.len() < 48 {
-        return 1;
-    }
-    if file.len() % 4 != 0 {
-        return 1;
-    }
-    if !is_chained(file) {
-        return 2;
-    }
-    if !is_within(file) {
-        return 3;
-    }
-    if word_at(file, 4) % 3 != 0 {
-        return 3;
-    }
-    if !lent {
-        return 4;
-    }
-    0
+    fits_limits(file) && word_at(file, 4) % 3 == 0
+}
+
+// Ok where a test holds.
+fn require(holds: bool, refusal: Refusal) -> Result<(), Refusal>
+    ensures { MatchResult result (λ _. IsTrue holds) (λ r. (holds ≡ false) × (r ≡ refusal)) }
+{
+    if holds { Ok(()) } else { Err(refusal) }
+}
+
+// The lowest line of the table that turns a session down as a whole; `lent` tells that what is lent will do.
+#[tactic(auto, unfolding(crate::specs::Session::tested))]
+pub(crate) fn validate(file: &[u8], lent: bool) -> Result<(), Refusal>
+    ensures { number_of result ≡ spec.tested file.now lent }
+{
+    require(is_whole(file), Refusal::NotWhole)?;
+    require(is_chained(file), Refusal::ContentsBroken)?;
+    require(is_within(file), Refusal::OverLimit)?;
+    require(lent, Refusal::LentUnsoundly)
 }

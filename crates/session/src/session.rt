@@ -29,9 +29,8 @@ pub fn session(
 {
     let entries = kinds.len();
     let agree = (share1.len() == entries) & ((share2.len() == entries) & (share3.len() == entries));
-    let number = contents::refusal(file, agree & (WORDS <= words.len()));
-    if number != 0 {
-        return answer::refused(number);
+    if let Err(refusal) = contents::validate(file, agree & (WORDS <= words.len())) {
+        return answer::refused(refusal);
     }
     sheet::decode(file, words);
     let n = file.len() / 4;

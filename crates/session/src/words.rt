@@ -7,11 +7,7 @@ pub(crate) fn word_at(file: &[u8], at: usize) -> u32
     requires { at + 4 ≤ length file.now }
     ensures { result ≡ word_at file.now at }
 {
-    let a = file[at] as u32;
-    let b = file[at + 1] as u32;
-    let c = file[at + 2] as u32;
-    let d = file[at + 3] as u32;
-    a + 256 * b + 65536 * c + 16777216 * d
+    u32::from_le_bytes([file[at], file[at + 1], file[at + 2], file[at + 3]])
 }
 
 // Puts the file's words at the front of the lent ones.
@@ -19,10 +15,8 @@ pub(crate) fn decode(file: &[u8], words: &mut [u32])
     requires { length file.now / 4 ≤ length words.old }
     ensures { words.new ≡ words_of file.now ++ drop (length file.now / 4) words.old }
 {
-    let n = file.len() / 4;
-    let mut i = 0;
-    while i < n {
-        words[i] = word_at(file, 4 * i);
-        i += 1;
+    let (chunks, _) = file.as_chunks::<4>();
+    for (i, bytes) in chunks.iter().enumerate() {
+        words[i] = u32::from_le_bytes(*bytes);
     }
 }

@@ -1,69 +1,87 @@
 -- The contents of a sheet, pair by pair, and what accepted contents say of the bodies.
-use Prim.Native.Nat.{ℕ, zero, suc, ◌+◌, ◌-◌, ◌*◌, ◌/◌, ◌%◌, ◌≤◌, ◌<◌}
-use mathlib.Core.Path.{◌≡◌, refl, ◌∙◌}
-use mathlib.Core.List.{List, [], ◌∷◌}
-use mathlib.Core.Bool.{Bool, true, false, cond, false≢true}
+use Prim.Native.Nat.{ℕ, zero, suc, ◌+◌, ◌-◌, ◌*◌, ◌/◌, ◌≤◌, ◌<◌}
+use mathlib.Core.Path.{◌≡◌, refl, sym}
+use mathlib.Core.List.{List, [], ◌∷◌, ◌++◌}
+use mathlib.Core.Bool.{Bool, true, false, cond, ◌&&◌, false≢true}
+use mathlib.Core.Logic.{◌↔◌}
 use native.Mathlib.Omega.{arith}
-use native.Mathlib.Numerals.{add-one}
-use lib.ListN.{length, get_or, take, drop, drop_of_length-le}
-use lib.Seq.{drop-cons, get_or-take, length-take-le}
+use lib.ListN.{length, get_or, take, drop, length-drop, take-append-drop}
+use lib.Seq.{get_or-take, length-take-le}
 use lib.Dec.{eqb, leb}
 use borrow.Author.Tests.{eqb-true, leb-true, eq-eqb, ne_eqb, le-leb, lt-leb}
+use native.Mathlib.Decide.{dec_le}
+use Rattle.std.specs.Bool.{IsTrue}
+use Rattle.std.specs.Simd.{first_chunks}
+use Rattle.std.proofs.lemmas.Bool.{false_from_ne_true}
 use Rattle.protocols.proofs.Laws.Deliveries.{both}
 use Rattle.session.specs.Words.{word_at, words_of}
 use Rattle.session.specs.Contents.{chained, limits, within, start_of, count_of, Bodies}
 use Rattle.session.specs.Session.{tested, is_whole, is_chained, is_within}
-use Rattle.session.proofs.Laws.Words.{length-words_of, get_or-words_of, drop-two}
+use Rattle.session.proofs.Laws.Words.{length-words_of, get_or-words_of}
 
-module _ (f : List ℕ) (long : 48 ≤ length f) where
-  abbrev pairs : List ℕ
-  pairs = take 12 (words_of f)
+pub twelve : (f : List ℕ) → 48 ≤ length f → length (take 12 (words_of f)) ≡ 12
+twelve f long = length-take-le 12 (words_of f) (omega (arith, length-words_of f))
 
-  entry : (j : ℕ) → j < 12 → get_or pairs j 0 ≡ word_at f (4 * j)
-  entry j h = get_or-take 12 (words_of f) j 0 h ∙ get_or-words_of f j (omega arith)
+-- ---- pair by pair
 
-  pub twelve : length pairs ≡ 12
-  twelve = length-take-le 12 (words_of f) (omega (arith, length-words_of f))
+-- the first n pairs of words
+abbrev pub pairs : List ℕ → ℕ → List ℕ
+pairs f n = take (2 * n) (words_of f)
 
-  -- pair k and the pairs after it
-  pair : (k : ℕ) → k < 6 → drop (2 * k) pairs ≡ word_at f (8 * k) ∷ word_at f (8 * k + 4) ∷ drop (2 * (k + 1)) pairs
-  pair k h =
-      let e₀ : 4 * (2 * k) ≡ 8 * k = omega arith in
-      let e₁ : 4 * (2 * k + 1) ≡ 8 * k + 4 = omega arith in
-      let e₂ : 2 * k + 2 ≡ 2 * (k + 1) = omega arith in
-      let d = drop-two pairs (2 * k) (omega (arith, twelve)) in
-      let a = entry (2 * k) (omega arith) in
-      let b = entry (2 * k + 1) (omega arith) in
-      rw (a, b, e₀, e₁, e₂) at d
+eight-words : (p r : List ℕ) → length p ≡ 8 → words_of (p ++ r) ≡ word_at p 0 ∷ word_at p 4 ∷ words_of r
+unfolding words_of
+eight-words [] r e = absurd (omega arith)
+eight-words (a ∷ []) r e = absurd (omega arith)
+eight-words (a ∷ b ∷ []) r e = absurd (omega arith)
+eight-words (a ∷ b ∷ c ∷ []) r e = absurd (omega arith)
+eight-words (a ∷ b ∷ c ∷ d ∷ []) r e = absurd (omega arith)
+eight-words (a ∷ b ∷ c ∷ d ∷ x ∷ []) r e = absurd (omega arith)
+eight-words (a ∷ b ∷ c ∷ d ∷ x ∷ y ∷ []) r e = absurd (omega arith)
+eight-words (a ∷ b ∷ c ∷ d ∷ x ∷ y ∷ z ∷ []) r e = absurd (omega arith)
+eight-words (a ∷ b ∷ c ∷ d ∷ x ∷ y ∷ z ∷ w ∷ []) r e = refl
+eight-words (a ∷ b ∷ c ∷ d ∷ x ∷ y ∷ z ∷ w ∷ v ∷ t) r e = absurd (omega arith)
 
-  no_more : (k : ℕ) → 6 ≤ k → drop (2 * k) pairs ≡ []
-  no_more k h = drop_of_length-le pairs {i = 2 * k} (omega (arith, twelve))
+-- what is left of the bytes l is a pair p and then r
+module _ (l p r : List ℕ) (e : l ≡ p ++ r) (long : length p ≡ 8) where
+  next_pair : (n m : ℕ) → n + 1 ≡ m → pairs l m ≡ word_at p 0 ∷ word_at p 4 ∷ pairs r n
+  next_pair n m h = let two : 2 * m ≡ suc (suc (2 * n)) = omega arith in rw (e, eight-words p r long, two)
 
-  module _ (k : ℕ) (h : k < 6) (s n : ℕ) (es : s ≡ word_at f (8 * k)) (en : n ≡ word_at f (8 * k + 4)) where
-    pub chain_turn : (at end : ℕ) → s ≡ at → chained (s + n) (drop (2 * (k + 1)) pairs) end ≡ chained at (drop (2 * k) pairs) end
+  module _ (n m : ℕ) (h : n + 1 ≡ m) {s c : ℕ} (es : s ≡ word_at p 0) (ec : c ≡ word_at p 4) where
+    pub chain_turn : (at end : ℕ) → s ≡ at → chained (s + c) (pairs r n) end ≡ chained at (pairs l m) end
     unfolding chained
-    chain_turn at end e = rw (pair k h, ← es, ← en, eq-eqb s at e)
+    chain_turn at end k = rw (next_pair n m h, ← es, ← ec, eq-eqb s at k)
 
-    pub chain_broken : (at end : ℕ) → ¬ (s ≡ at) → false ≡ chained at (drop (2 * k) pairs) end
+    pub chain_broken : (at end : ℕ) → ¬ (s ≡ at) → false ≡ chained at (pairs l m) end
     unfolding chained
-    chain_broken at end e = rw (pair k h, ← es, ne_eqb s at e)
+    chain_broken at end k = rw (next_pair n m h, ← es, ne_eqb s at k)
 
-  module _ (k : ℕ) (h : k < 6) (n : ℕ) (en : n ≡ word_at f (8 * k + 4)) where
-    pub limit_turn : n ≤ get_or limits k 0 → within (drop (k + 1) limits) (drop (2 * (k + 1)) pairs) ≡ within (drop k limits) (drop (2 * k) pairs)
-    unfolding within
-    limit_turn e = rw (pair k h, ← en, drop-cons limits k 0 h, le-leb n (get_or limits k 0) e, add-one)
+pub chain_end : (l : List ℕ) (n at end : ℕ) → n ≡ 0 → eqb at end ≡ chained at (pairs l n) end
+unfolding chained
+chain_end l n at end e = rw e
 
-    pub limit_broken : get_or limits k 0 < n → false ≡ within (drop k limits) (drop (2 * k) pairs)
-    unfolding within
-    limit_broken e = rw (pair k h, ← en, drop-cons limits k 0 h, lt-leb n (get_or limits k 0) e)
+-- each of the first pairs of bytes has a count within its limit
+abbrev Each : List ℕ → List ℕ → ℕ → Type 0
+Each ms f n = (k : ℕ) → k < length ms → word_at (get_or (first_chunks 8 n f) k []) 4 ≤ get_or ms k 0
 
-  pub chain_end : (k at end : ℕ) → 6 ≤ k → eqb at end ≡ chained at (drop (2 * k) pairs) end
-  unfolding chained
-  chain_end k at end h = rw (no_more k h)
+pub each_within : (ms f : List ℕ) (n : ℕ) (b : Bool) → length ms ≤ n → 8 * n ≤ length f → IsTrue b ↔ Each ms f n → b ≡ within ms (pairs f (length ms))
+unfolding within
+each_within [] f n b h g e = e.1 (λ k z. absurd (omega arith))
+each_within (m ∷ ms) f zero b h g e = absurd (omega arith)
+each_within (m ∷ ms) f (suc n) b h g e =
+    rw (next_pair f (take 8 f) (drop 8 f) (sym (take-append-drop 8 f)) (length-take-le 8 f (omega arith)) (length ms) (suc (length ms)) (omega arith))
+    (by_count (dec_le (word_at (take 8 f) 4) m) (λ le. each_within ms (drop 8 f) n b (omega arith) (omega (arith, length-drop 8 f)) (rest le)))
+  where
+    rest : word_at (take 8 f) 4 ≤ m → IsTrue b ↔ Each ms (drop 8 f) n
+    rest le = (λ t k z. e.0 t (suc k) (omega arith), λ all. e.1 (both le all))
+      where
+        both : word_at (take 8 f) 4 ≤ m → Each ms (drop 8 f) n → Each (m ∷ ms) f (suc n)
+        both le all zero z = le
+        both le all (suc k) z = all k (omega arith)
 
-  pub limit_end : (k : ℕ) → k ≡ 6 → true ≡ within (drop k limits) (drop (2 * k) pairs)
-  unfolding within
-  limit_end k e = rw e
+    by_count : Dec (word_at (take 8 f) 4 ≤ m) → (word_at (take 8 f) 4 ≤ m → b ≡ within ms (pairs (drop 8 f) (length ms)))
+        → b ≡ (leb (word_at (take 8 f) 4) m && within ms (pairs (drop 8 f) (length ms)))
+    by_count (yes le) i = rw (le-leb (word_at (take 8 f) 4) m le) (i le)
+    by_count (no gt) i = rw (lt-leb (word_at (take 8 f) 4) m (omega arith)) (false_from_ne_true b (λ t. gt (e.0 t 0 (omega arith))))
 
 -- ---- accepted contents
 
@@ -155,40 +173,8 @@ bodies f a =
 pub part : (l : List ℕ) (a n : ℕ) → take (a + n - a) (drop a l) ≡ take n (drop a l)
 part l a n = let e : a + n - a ≡ n = omega arith in rw e
 
--- ---- the tests, one by one
-
-module _ (f : List ℕ) where
-  pub whole : 48 ≤ length f → length f % 4 ≡ 0 → is_whole f ≡ true
-  whole h e = rw (le-leb 48 (length f) h, eq-eqb (length f % 4) 0 e)
-
-  count-commands : is_whole f ≡ true → count_of (words_of f) 0 ≡ word_at f 4
-  count-commands h = get_or-words_of f 1 (omega (arith, leb-true 48 (length f) (both _ _ h).0))
-
-  module _ (lent : Bool) where
-    pub no_header : length f < 48 → 1 ≡ tested f lent
-    unfolding tested
-    no_header h = rw (lt-leb 48 (length f) h)
-
-    pub no_words : 48 ≤ length f → ¬ (length f % 4 ≡ 0) → 1 ≡ tested f lent
-    unfolding tested
-    no_words h e = rw (le-leb 48 (length f) h, ne_eqb (length f % 4) 0 e)
-
-    pub no_chain : is_whole f ≡ true → is_chained f ≡ false → 2 ≡ tested f lent
-    unfolding tested
-    no_chain h c = rw (h, c)
-
-    pub no_limits : is_whole f ≡ true → is_chained f ≡ true → within limits (take 12 (words_of f)) ≡ false → 3 ≡ tested f lent
-    unfolding tested
-    no_limits h c w = rw (h, c, w)
-
-    pub no_threes : is_whole f ≡ true → is_chained f ≡ true → within limits (take 12 (words_of f)) ≡ true → ¬ (word_at f 4 % 3 ≡ 0) → 3 ≡ tested f lent
-    unfolding tested
-    no_threes h c w e = rw (h, c, w, count-commands h, ne_eqb (word_at f 4 % 3) 0 e)
-
-    pub last_test : is_whole f ≡ true → is_chained f ≡ true → within limits (take 12 (words_of f)) ≡ true → word_at f 4 % 3 ≡ 0
-        → cond lent 0 4 ≡ tested f lent
-    unfolding tested
-    last_test h c w e = rw (h, c, w, count-commands h, eq-eqb (word_at f 4 % 3) 0 e)
+pub count-commands : (f : List ℕ) → 48 ≤ length f → word_at f 4 ≡ count_of (words_of f) 0
+count-commands f h = sym (get_or-words_of f 1 (omega arith))
 
 pub at_most_4 : (f : List ℕ) (lent : Bool) → tested f lent ≤ 4
 unfolding tested

@@ -1,5 +1,5 @@
 -- A session, case by case.
-use Prim.Native.Nat.{ℕ, ◌/◌, ◌≤◌}
+use Prim.Native.Nat.{ℕ, ◌/◌, ◌≤◌, ◌<◌}
 use mathlib.Core.Path.{◌≡◌, ◌∙◌, ap, sym}
 use mathlib.Core.Bool.{Bool, ◌&&◌}
 use mathlib.Core.List.{List}
@@ -9,11 +9,14 @@ use lib.Dec.{leb}
 use borrow.Author.Tests.{eq-eqb, ne_eqb, leb-true}
 use Rattle.machine.specs.Lent.{sizes}
 use Rattle.machine.specs.Verdict.{same_length}
+use Rattle.machine.specs.Run.{empty}
+use Rattle.machine.specs.declared.refusal.Refusal.{Refusal}
+use Rattle.machine.specs.Refusal.{number}
 use Rattle.protocols.proofs.Laws.Deliveries.{both}
 use Rattle.session.specs.declared.answer.SessionAnswer.{SessionAnswer}
 use Rattle.session.specs.Words.{words_of}
 use Rattle.session.specs.Contents.{sheet_of}
-use Rattle.session.specs.Session.{State, outcome, lent_with, tested, refusal, refused, Finish, finish, finished, performed, run_of, with_words, session}
+use Rattle.session.specs.Session.{State, outcome, answer, lent_with, tested, refusal, refused, Finish, finish, finished, performed, run_of, with_words, session}
 use Rattle.session.proofs.Laws.Words.{front}
 use Rattle.session.proofs.Laws.Contents.{accepted, fits_lent}
 
@@ -23,10 +26,19 @@ words_lent f w alike h =
     let a = accepted f (alike && leb 7692 (length w)) h in
     omega (arith, fits_lent f a, leb-true 7692 (length w) (both alike (leb 7692 (length w)) a.enough).1)
 
+numbered : (r : Refusal) → 0 < number r
+numbered r = grind arith
+
 module _ (f w : List ℕ) (s : State) where
   pub session-refused : ¬ (refusal f w s ≡ 0) → session f w s ≡ refused (refusal f w s) w s
   unfolding session
   session-refused h = rw (ne_eqb (refusal f w s) 0 h)
+
+  -- as the code has it
+  pub session-turned_down : (r : Refusal) → number r ≡ refusal f w s → (a : SessionAnswer) → a ≡ answer 0 empty (number r) → outcome a w s ≡ session f w s
+  session-turned_down r e a h =
+      ap (λ (x : SessionAnswer). outcome x w s) (h ∙ ap (λ (n : ℕ). answer 0 empty n) e)
+      ∙ sym (session-refused (λ z. omega (arith, numbered r, e, z)))
 
   pub session-run : refusal f w s ≡ 0 → session f w s ≡ performed (finished (run_of (sheet_of (words_of f)) s)) (with_words f w)
   unfolding session

@@ -1,11 +1,15 @@
 -- The words of a file, one by one.
 use Prim.Native.Nat.{ℕ, zero, suc, ◌+◌, ◌*◌, ◌/◌, ◌≤◌, ◌<◌}
-use mathlib.Core.Path.{◌≡◌, refl, ap, subst, ◌∙◌}
+use mathlib.Core.Path.{◌≡◌, refl, ap, ◌∙◌}
 use mathlib.Core.List.{List, [], ◌∷◌, ◌++◌}
+use native.Mathlib.Nat.{zero-add}
 use native.Mathlib.Omega.{arith}
-use native.Mathlib.Numerals.{add-one}
 use lib.ListN.{length, get_or, take, drop, set}
-use lib.Seq.{drop-cons, take_all, take_at, paste, paste-suc}
+use lib.Seq.{drop-cons, take_at}
+use Rattle.std.proofs.lemmas.List.Edits.{paste_more}
+use mir.Syntax.{w32}
+use Rattle.std.specs.Int.{from_le_bytes}
+use Rattle.std.specs.Simd.{first_chunks}
 use Rattle.session.specs.Words.{word_at, words_of}
 
 pub length-words_of : (f : List ℕ) → length (words_of f) ≡ length f / 4
@@ -36,18 +40,25 @@ get_or-words_of (a ∷ b ∷ c ∷ d ∷ r) (suc i) h =
 
 -- ---- decoding, a word a turn
 
-pub decode_turn : (d f w : List ℕ) (i r : ℕ) → i < length f / 4 → length f / 4 ≤ length d → r ≡ word_at f (4 * i) → w ≡ paste d 0 (words_of f) i
-    → set w i r ≡ paste d 0 (words_of f) (i + 1)
-decode_turn d f w i r h hd er ew =
-    let e : 0 + i ≡ i = omega arith in
-    let g = get_or-words_of f i h in
-    let s = paste-suc d 0 (words_of f) i 0 (omega arith) (omega (arith, length-words_of f)) in
-    rw (ew, er, ← g, add-one) (subst (λ (j : ℕ). set (paste d 0 (words_of f) i) j (get_or (words_of f) i 0) ≡ paste d 0 (words_of f) (suc i)) e s)
+chunk_word : (f : List ℕ) (k i : ℕ) → i < k → k ≤ length f / 4 → from_le_bytes w32 (get_or (first_chunks 4 k f) i []) ≡ get_or (words_of f) i 0
+unfolding words_of
+chunk_word f zero i h e = let z : ⊥ = omega arith in absurd z
+chunk_word [] (suc k) i h e = let z : ⊥ = omega arith in absurd z
+chunk_word (a ∷ []) (suc k) i h e = let z : ⊥ = omega arith in absurd z
+chunk_word (a ∷ b ∷ []) (suc k) i h e = let z : ⊥ = omega arith in absurd z
+chunk_word (a ∷ b ∷ c ∷ []) (suc k) i h e = let z : ⊥ = omega arith in absurd z
+chunk_word (a ∷ b ∷ c ∷ d ∷ r) (suc k) zero h e = omega arith
+chunk_word (a ∷ b ∷ c ∷ d ∷ r) (suc k) (suc i) h e = chunk_word r k i (omega arith) (omega arith)
 
-pub decode_end : (d f : List ℕ) (i : ℕ) → i ≡ length f / 4 → paste d 0 (words_of f) i ≡ words_of f ++ drop (length f / 4) d
-decode_end d f i e =
-    let z : 0 + i ≡ length f / 4 = omega arith in
-    rw (z, take_all i (words_of f) (omega (arith, length-words_of f)))
+-- the words d with the first i of the file put over them
+abbrev pub decoded : List ℕ → List ℕ → ℕ → List ℕ
+decoded d f i = take i (words_of f) ++ drop i d
+
+pub decode_turn : (d f w : List ℕ) (cs : List (List ℕ)) (i r : ℕ) → cs ≡ first_chunks 4 (length f / 4) f → i < length f / 4 → length f / 4 ≤ length d
+    → r ≡ from_le_bytes w32 (get_or cs i []) → w ≡ decoded d f i → set w i r ≡ decoded d f (i + 1)
+decode_turn d f w cs i r ec h hd er ew =
+    let g = chunk_word f (length f / 4) i h (omega arith) in
+    rw (ew, er, ec, g) (simp zero-add at (paste_more d 0 (words_of f) i 0 (omega arith) (omega (arith, length-words_of f))))
 
 -- the part of the lent words that holds the file's
 pub front : (f w : List ℕ) → take (length f / 4) (words_of f ++ drop (length f / 4) w) ≡ words_of f

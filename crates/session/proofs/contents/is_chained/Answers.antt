@@ -1,24 +1,28 @@
 -- `session::contents::is_chained` meets its contract.
-use Rattle.std.proofs.Common.{◌∙◌, arith}
+use Rattle.std.proofs.Common.{◌<◌, length, ap, ◌∙◌, length-append, arith}
 use Rattle.session.proofs.Laws.Contents.{chain_turn, chain_broken, chain_end}
 use Rattle.session.proofs.contents.is_chained.Goals as goal
 
 pub returns-then-start-at : goal.returns-then-start-at
 returns-then-start-at c =
-    let l = c.loop-k in
-    let start = c.word_at-start.ensures in
-    let count = c.word_at-count.ensures in
-    chain_broken c.args.file.now c.requires l.k c.loop-k-test.true _ _ start count l.at _ c.if-start-at.true ∙ l.invariant.same
+    let next = c.in-Some.ensures.steps in
+    let kept = c.loop-pair.invariant in
+    chain_broken _ _ _ next.0.1.0 (next.0.1.1 ∙ kept.size) _ _ next.1 c.word_at-start.ensures c.word_at-count.ensures _ _ c.if-start-at.true ∙ kept.same
 
-pub loop-k-preserved : goal.loop-k-preserved
-loop-k-preserved c =
-    let l = c.loop-k in
-    let start = c.word_at-start.ensures in
-    let count = c.word_at-count.ensures in
+pub loop-pair-preserved : goal.loop-pair-preserved
+loop-pair-preserved c =
+    let next = c.in-Some.ensures.steps in
+    let kept = c.loop-pair.invariant in
     record {
-      in_range = omega arith;
-      same = chain_turn c.args.file.now c.requires l.k c.loop-k-test.true _ _ start count l.at _ c.if-start-at.false ∙ l.invariant.same;
+      size = next.0.0 ∙ kept.size;
+      enough = omega (arith, ap length next.0.1.0, length-append c.in-Some.pair.now c.next.new.self.iter.rest.now);
+      same =
+          chain_turn _ _ _ next.0.1.0 (next.0.1.1 ∙ kept.size) _ _ next.1 c.word_at-start.ensures c.word_at-count.ensures _ _ c.if-start-at.false
+          ∙ kept.same;
     }
 
 pub returns : goal.returns
-returns c = chain_end c.args.file.now c.requires c.loop-k.k c.loop-k.at _ c.loop-k-test.false ∙ c.loop-k.invariant.same
+returns c =
+    let left = c.loop-pair.pair-iterator in
+    let short : 0 < left.n → length left.iter.rest.now < left.iter.size = λ h. (c.in-None.ensures.steps h).1.0 in
+    chain_end _ left.n _ _ (grind (arith, short)) ∙ c.loop-pair.invariant.same

@@ -1,14 +1,14 @@
--- The pairs from k on are chained from the place reached just where all are chained from 12.
-use Rattle.std.proofs.Common.{◌≡◌, ◌-◌, ◌*◌, ◌/◌, ◌≤◌, length, take, drop}
-use Rattle.session.specs.Words.{words_of}
+-- The pairs left are chained from the place reached just where all are chained from 12.
+use Rattle.std.proofs.Common.{◌≡◌, ◌≤◌, ◌*◌, ◌/◌, length}
 use Rattle.session.specs.Contents.{chained}
+use Rattle.session.proofs.Laws.Contents.{pairs}
 use Rattle.session.proofs.contents.is_chained.Given as goal
 
-abbrev pub invariant-loop-k : goal.invariant-loop-k
-invariant-loop-k l = record {
-  in_range : l.k ≤ 6;
-  same : chained l.at (drop (2 * l.k) (take 12 (words_of l.file))) (length l.file / 4) ≡ chained 12 (take 12 (words_of l.file)) (length l.file / 4);
-}
-
-abbrev pub decreases-loop-k : goal.decreases-loop-k
-decreases-loop-k l = 6 - l.k
+abbrev pub invariant-loop-pair : goal.invariant-loop-pair
+invariant-loop-pair l =
+    let left = l.pair-iterator in
+    record {
+      size : left.iter.size ≡ 8;
+      enough : 8 * left.n ≤ length left.iter.rest.now;
+      same : chained l.at (pairs left.iter.rest.now left.n) (length l.file / 4) ≡ chained 12 (pairs l.file 6) (length l.file / 4);
+    }

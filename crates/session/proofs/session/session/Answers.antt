@@ -3,36 +3,27 @@ use Rattle.std.proofs.Common.{ℕ, ◌/◌, List, length, take, sym, ap, subst, 
 use Rattle.std.proofs.Math.Seq.{length-take-le}
 use Rattle.protocols.specs.Place.{lists}
 use Rattle.machine.specs.Lent.{tables}
-use Rattle.machine.specs.Run.{empty}
-use Rattle.session.specs.declared.answer.SessionAnswer.{SessionAnswer}
 use Rattle.session.specs.Contents.{Bodies}
-use Rattle.session.specs.Session.{State, state, answer, outcome}
+use Rattle.session.specs.Session.{State, state}
 use Rattle.session.proofs.Laws.Words.{front}
 use Rattle.session.proofs.Laws.Contents.{accepted, bodies}
-use Rattle.session.proofs.Laws.Session.{session-refused, words_lent, session-done}
+use Rattle.session.proofs.Laws.Session.{session-turned_down, words_lent, session-done}
 use Rattle.session.proofs.session.session.Goals as goal
 
-pub returns-then-number-ne0 : goal.returns-then-number-ne0
-returns-then-number-ne0 c =
-    let a = c.args in
-    let s : State =
-    state (tables a.share1.now a.share2.now a.share3.now) a.kinds.now (lists a.received1.now a.received2.now a.received3.now a.controller.now)
-    in
-    let number = c.refusal-number.ensures in
-    ap (λ (d : SessionAnswer). outcome d a.words.now s) (c.refused.ensures ∙ ap (λ (n : ℕ). answer 0 empty n) number)
-    ∙ sym (session-refused a.file.now a.words.now s (λ e. c.if-number-ne0.true (number ∙ e)))
+pub returns-in-Err : goal.returns-in-Err
+returns-in-Err c = session-turned_down c.args.file.now c.args.words.now _ c.in-Err.refusal c.in-Err.ensures c.refused.result c.refused.ensures
 
 pub decode-requires : goal.decode-requires
-decode-requires c = words_lent c.args.file.now c.args.words.now _ (sym c.refusal-number.ensures ∙ c.if-number-ne0.false)
+decode-requires c = words_lent c.args.file.now c.args.words.now _ (sym c.in_default.ensures)
 
 pub slice_bounds-run_words-end : goal.slice_bounds-run_words-end
 slice_bounds-run_words-end c =
-    let fit = words_lent c.args.file.now c.args.words.now _ (sym c.refusal-number.ensures ∙ c.if-number-ne0.false) in
+    let fit = words_lent c.args.file.now c.args.words.now _ (sym c.in_default.ensures) in
     omega (arith, c.decode.auto.words, fit)
 
 pub slice_bounds-run_words-end-2 : goal.slice_bounds-run_words-end-2
 slice_bounds-run_words-end-2 c =
-    let fit = words_lent c.args.file.now c.args.words.now _ (sym c.refusal-number.ensures ∙ c.if-number-ne0.false) in
+    let fit = words_lent c.args.file.now c.args.words.now _ (sym c.in_default.ensures) in
     sym (length-take-le (length c.args.file.now / 4) c.decode.new.words (omega (arith, c.decode.auto.words, fit)))
 
 pub run_words-requires : goal.run_words-requires
@@ -40,7 +31,7 @@ run_words-requires c =
     let a = c.args in
     let f = a.file.now in
     subst Bodies (sym (ap (λ (l : List ℕ). take (length f / 4) l) c.decode.ensures ∙ front f a.words.now))
-    (bodies f (accepted f _ (sym c.refusal-number.ensures ∙ c.if-number-ne0.false)))
+    (bodies f (accepted f _ (sym c.in_default.ensures)))
 
 pub returns : goal.returns
 returns c =
@@ -48,5 +39,5 @@ returns c =
     let s : State =
     state (tables a.share1.now a.share2.now a.share3.now) a.kinds.now (lists a.received1.now a.received2.now a.received3.now a.controller.now)
     in
-    session-done a.file.now a.words.now s (sym c.refusal-number.ensures ∙ c.if-number-ne0.false) c.decode.new.words c.decode.ensures c.run_words.result _
+    session-done a.file.now a.words.now s (sym c.in_default.ensures) c.decode.new.words c.decode.ensures c.run_words.result _
     c.run_words.ensures

@@ -1,17 +1,16 @@
 -- `session::words::decode` meets its contract.
-use Rattle.std.proofs.Common.{◌∙◌, arith}
-use Rattle.session.proofs.Laws.Words.{decode_turn, decode_end}
+use Rattle.std.proofs.Common.{◌≡◌, ◌/◌, length, take_all, arith}
+use Rattle.session.specs.Words.{words_of}
+use Rattle.session.proofs.Laws.Words.{length-words_of, decode_turn}
 use Rattle.session.proofs.words.decode.Goals as goal
 
 pub loop-i-preserved : goal.loop-i-preserved
 loop-i-preserved c =
-    let a = c.args in
     let l = c.loop-i in
-    let w = c.word_at in
-    record {
-      in_range = omega arith;
-      put = decode_turn a.words.now a.file.now l.words l.i w.result c.loop-i-test.true c.requires w.ensures l.invariant.put;
-    }
+    decode_turn c.args.words.now c.args.file.now l.words c.as_chunks.result.0.now l.i c.from_le_bytes.result c.as_chunks.ensures.front (omega arith)
+    c.requires c.from_le_bytes.ensures l.invariant
 
 pub returns : goal.returns
-returns c = c.loop-i.invariant.put ∙ decode_end c.args.words.now c.args.file.now c.loop-i.i (omega arith)
+returns c =
+    let e : c.loop-i.i ≡ length c.args.file.now / 4 = omega arith in
+    rw (take_all c.loop-i.i (words_of c.args.file.now) (omega (arith, length-words_of c.args.file.now)), e) at c.loop-i.invariant
