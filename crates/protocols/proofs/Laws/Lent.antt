@@ -1,5 +1,5 @@
 -- Each protocol on lent tapes, by its draws and its parts.
-use Rattle.std.proofs.Common.{◌≡◌, ℕ, ◌+◌, ◌-◌, ◌*◌, ◌≤◌, Bool, true, false, ltb, List, [], ◌∷◌, ◌++◌, length, get_or, take, drop, sym, refl, ap, ◌∙◌, add-zero, arith, length-append, length-drop, ltb-false, ltb-true}
+use Rattle.std.proofs.Common.{◌≡◌, ℕ, ◌+◌, ◌-◌, ◌*◌, ◌≤◌, Bool, true, false, leb, ltb, List, [], ◌∷◌, ◌++◌, length, get_or, take, drop, sym, refl, ap, ◌∙◌, add-zero, arith, length-append, length-drop, ltb-false, ltb-true}
 use Rattle.protocols.specs.declared.place.Party.{Party}
 use Rattle.protocols.specs.declared.place.Party.TheVariants.{Provider, One, Two, Three}
 use Rattle.protocols.specs.declared.bits.Dealt.{Dealt}
@@ -8,9 +8,9 @@ use Rattle.protocols.specs.declared.place.Received.{Received}
 use Rattle.std.specs.Prelude.{Result, Option, Some, None}
 use Rattle.protocols.specs.declared.outcome.Done.{Done}
 use Rattle.protocols.specs.declared.outcome.Shortage.{Shortage}
-use Rattle.protocols.specs.Outcome.{Outcome, outcome, Delivered, finished, delivered, delivery, fronts, puts}
+use Rattle.protocols.specs.Outcome.{Outcome, outcome, Delivered, finished, delivered, delivery, holds, fronts, puts}
 use Rattle.protocols.specs.Counts.{received, plus_received, due}
-use Rattle.protocols.proofs.Laws.Deliveries.{fronts_puts, room_true, not_spent, done_anywhere}
+use Rattle.protocols.proofs.Laws.Deliveries.{both, has_room, fronts_puts, room_true, not_spent, done_anywhere}
 use Rattle.protocols.specs.Masked.{masked}
 use Rattle.protocols.specs.Bit.{bit}
 use Rattle.protocols.specs.Bits.{deal, begun, exchange, carried, round, rounds, joined, bits}
@@ -127,6 +127,16 @@ alone k t Three h = absurd (omega arith)
 bit_of_one : (m j : ℕ) (u : Shares) (p : Place) (t : Tapes) → perform (bit m j) u p t ≡ perform (bit m j) u p (tapes [] t.one [] [])
 unfolding bit
 bit_of_one m j u p t = perform_agree (bit m j) u p t (tapes [] t.one [] []) (alone 3 t)
+
+-- ---- the room of lent lists
+
+pub rooms : (a b c : ℕ) (l : Lists) → holds l (received a b c 0) ≡ true → (a ≤ length l.one) × (b ≤ length l.two) × (c ≤ length l.three)
+rooms a b c l h = has_room a b c (length l.one) (length l.two) (length l.three) ((both (leb 0 (length l.controller)) _ h).1)
+
+-- where a protocol has put its words
+pub room_kept : {S T : Type 0} {f : Protocol S T} {s : S} {p : Place} {t : Tapes} {l₀ l : Lists} {x : T} {k : Received} {q : Place} {a b c : ℕ} → Performed f s p t l₀ x l k q
+    → (a ≤ length l₀.one) × (b ≤ length l₀.two) × (c ≤ length l₀.three) → (a ≤ length l.one) × (b ≤ length l.two) × (c ≤ length l.three)
+room_kept {l₀ = l₀} d h = rw (d.are, length-sets l₀.one 0 d.words.one, length-sets l₀.two 0 d.words.two, length-sets l₀.three 0 d.words.three) h
 
 -- ---- Bits
 
