@@ -1,24 +1,29 @@
-use Rattle.std.proofs.Common.{rules, ◌≡◌, ◌+◌, ◌*◌, ◌<◌, ◌≤◌, true, [], ◌∷◌, length, ℕ, ◌-◌, ◌/◌, ◌%◌, Bool, false, nat_eq, nat_lt, List, ◌++◌, slice_index_or, slice_set, bit_and, bit_or, Fits, w8, w32, w64, Bor, MutBor}
-use Rattle.protocols.specs.Word.{modulus, width}
+-- `protocols::equal::equal` meets its contract.
+use Rattle.std.proofs.Common.{sym, ◌∙◌}
 use Rattle.protocols.specs.Shares.{operands}
-use Rattle.protocols.specs.Place.{tapes, lists, enough, to_next, ◌followed_by◌}
-use Rattle.protocols.specs.Protocol.{perform}
-use Rattle.protocols.specs.Outcome.{outcome, delivered, delivery, fronts, puts}
+use Rattle.protocols.specs.Place.{counts}
 use Rattle.protocols.specs.Counts.{received}
-use Rattle.protocols.specs.Lent.{tapes_of, lists_of, Same}
-use Rattle.protocols.specs.Masked.{masked}
-use Rattle.protocols.specs.WordForm as word
-use Rattle.protocols.specs.Equal as spec
+use Rattle.protocols.specs.Lent.{tapes_of, lists_of}
+use Rattle.protocols.specs.Equal.{equal}
+use Rattle.protocols.proofs.Laws.Deliveries.{words_lack, room_lacks}
+use Rattle.protocols.proofs.Laws.Lent.{rooms}
+use Rattle.protocols.proofs.Laws.Counts.{table_at_32}
 use Rattle.protocols.proofs.equal.equal.Goals as goal
 
--- src/equal.rt:171:9
 pub returns-then-not-have-clause-done : goal.returns-then-not-have-clause-done
-returns-then-not-have-clause-done c = ?
+returns-then-not-have-clause-done c =
+    let a = c.args in
+    words_lack (equal 5) (counts 0 10 6 6) table_at_32.equal_row.drawn (operands a.u a.v) a.place (tapes_of a.tapes.now)
+    (lists_of a.lists.now) (sym c.have.ensures ∙ c.if-not-have.true)
 
--- src/equal.rt:174:9
 pub returns-then-not-have_room-clause-done : goal.returns-then-not-have_room-clause-done
-returns-then-not-have_room-clause-done c = ?
+returns-then-not-have_room-clause-done c =
+    let a = c.args in
+    room_lacks (equal 5) (counts 0 10 6 6) table_at_32.equal_row.drawn (operands a.u a.v) a.place (tapes_of a.tapes.now)
+    (lists_of a.lists.now) (received 11 15 15 0) table_at_32.equal_row.long (sym c.have.ensures ∙ c.if-not-have.false)
+    (sym c.have_room.ensures ∙ c.if-not-have_room.true)
 
--- src/equal.rt:176:5
 pub folds-requires : goal.folds-requires
-folds-requires c = ?
+folds-requires c =
+    let h = rooms 11 15 15 (lists_of c.args.lists.now) (sym c.have_room.ensures ∙ c.if-not-have_room.false) in
+    (rw table_at_32.equal_row.drawn (sym c.have.ensures ∙ c.if-not-have.false), h.0, h.1, h.2)
