@@ -25,14 +25,10 @@ returns-in_default-draw_pairs-clause-done c =
 pub loop-k-init : goal.loop-k-init
 loop-k-init c =
     let a = c.args in
-    record {
-      same = c.deal-held.ensures.same;
-      done = rounds-begun 5 a.u a.place (tapes_of a.tapes.now) (sym c.draw.ensures ∙ ap drawn c.in-Some.is) _ _
-          (sym c.draw_pairs.ensures ∙ c.in-Some-draw_pairs.is) (lists_of a.lists.now) _ c.deal-held.result c.deal-held.ensures.dealt;
-    }
-
-pub returns-in_default-draw_pairs-2-clause-same : goal.returns-in_default-draw_pairs-2-clause-same
-returns-in_default-draw_pairs-2-clause-same c = c.loop-k.invariant.same
+    let d =
+    rounds-begun 5 a.u a.place (tapes_of a.tapes.now) (sym c.draw.ensures ∙ ap drawn c.in-Some.is) _ _
+    (sym c.draw_pairs.ensures ∙ c.in-Some-draw_pairs.is) (lists_of a.lists.now) _ c.deal-held.result c.deal-held.ensures.dealt in
+    record { same = c.deal-held.ensures.same; room = room_kept d (c.requires.1, c.requires.2, c.requires.3); done = d }
 
 pub returns-in_default-draw_pairs-2-clause-done : goal.returns-in_default-draw_pairs-2-clause-done
 returns-in_default-draw_pairs-2-clause-done c =
@@ -43,20 +39,12 @@ returns-in_default-draw_pairs-2-clause-done c =
     (sym c.draw_pairs-in-loop-k.ensures ∙ c.in_default-draw_pairs-2.is) in
     not_spent (bits 5) a.u a.place t c.requires.0 (bits-spent 5 _ _ _ (c.loop-k.k + 1) (omega arith) e) _
 
-pub round-held-requires : goal.round-held-requires
-round-held-requires c =
-    let h = room_kept c.loop-k.invariant.done (c.requires.1, c.requires.2, c.requires.3) in
-    (c.loop-k-test.true, h.0, h.1, h.2)
-
 pub loop-k-preserved : goal.loop-k-preserved
-loop-k-preserved c = record {
-  same = search;
-  done = rounds_more 5 c.args.u _ _ c.loop-k.k c.loop-k.invariant.done _ _
-      (sym c.draw_pairs-in-loop-k.ensures ∙ c.in-Some-draw_pairs-2.is) _ c.round-held.result c.round-held.ensures.carried;
-}
-
-pub returns-clause-same : goal.returns-clause-same
-returns-clause-same c = c.loop-k.invariant.same
+loop-k-preserved c =
+    let d =
+    rounds_more 5 c.args.u _ _ c.loop-k.k c.loop-k.invariant.done _ _
+    (sym c.draw_pairs-in-loop-k.ensures ∙ c.in-Some-draw_pairs-2.is) _ c.round-held.result c.round-held.ensures.carried in
+    record { same = search; room = room_kept d (c.requires.1, c.requires.2, c.requires.3); done = d }
 
 pub returns-clause-done : goal.returns-clause-done
 returns-clause-done c =

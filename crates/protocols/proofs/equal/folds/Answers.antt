@@ -32,9 +32,6 @@ loop-k-init c =
     (sym c.draw_each.ensures ∙ c.in-Some-draw_each.is) (lists_of a.lists.now) _ c.compare-held.result c.compare-held.ensures.compared in
     record { same = c.compare-held.ensures.same; room = room_kept d (c.requires.1, c.requires.2, c.requires.3); done = d }
 
-pub returns-in_default-draw_each-2-clause-same : goal.returns-in_default-draw_each-2-clause-same
-returns-in_default-draw_each-2-clause-same c = c.loop-k.invariant.same
-
 pub returns-in_default-draw_each-2-clause-done : goal.returns-in_default-draw_each-2-clause-done
 returns-in_default-draw_each-2-clause-done c =
     let a = c.args in
