@@ -25,14 +25,14 @@ use Rattle.protocols.specs.declared.place.Place.{Place}
 use Rattle.protocols.specs.declared.shares.Shares.{Shares}
 use Rattle.protocols.specs.Word.{width, modulus}
 use Rattle.protocols.specs.Shares.{one, two, three, Operands}
-use Rattle.protocols.specs.Place.{Tapes, tapes, tape, Lists, lists, Receiver, miner, controller, list, advance, count, counts, moved, tape_number, draw_case, draw, enough, block, ◌followed_by◌, to_next, to_two_three}
+use Rattle.protocols.specs.Place.{Tapes, tapes, tape, Lists, lists, Receiver, miner, controller, list, advance, count, counts, plus, moved, tape_number, draw_case, draw, enough, block, ◌followed_by◌, to_next, to_two_three}
 use Rattle.protocols.specs.Draws.{draw_each, draw_pairs}
 use Rattle.protocols.specs.Protocol.{Protocol, ◌then◌, locally, Answer, done, spent, perform}
 use Rattle.protocols.specs.Store.{store}
 use Rattle.protocols.specs.Reshare.{reshare}
 use Rattle.protocols.specs.Multiply.{multiply}
 use Rattle.protocols.specs.Open.{opening}
-use Rattle.protocols.proofs.Laws.Draws.{after, enough_true, enough_false, Agree, enough_agree, block_agree, block-first}
+use Rattle.protocols.proofs.Laws.Draws.{after, enough_true, enough_false, Agree, enough_agree, enough-plus, block_agree, block-first}
 use Rattle.protocols.proofs.Laws.Perform.{by_each, by_pairs, by_words, and_then, preceded, perform_then, perform-locally, perform_agree, then_spent, then_done, locally_then, followed_by_silence, Performed, rounds-spent, round-done, round-spent, performs, is_spent}
 
 -- ---- the ring protocols
@@ -127,6 +127,11 @@ alone k t Three h = absurd (omega arith)
 bit_of_one : (m j : ℕ) (u : Shares) (p : Place) (t : Tapes) → perform (bit m j) u p t ≡ perform (bit m j) u p (tapes [] t.one [] [])
 unfolding bit
 bit_of_one m j u p t = perform_agree (bit m j) u p t (tapes [] t.one [] []) (alone 3 t)
+
+-- ---- what is lent to the first part of a protocol
+
+pub enough_first : (n k : Drawn) (p : Place) (t : Tapes) → enough (plus n k) p t ≡ true → enough n p t ≡ true
+enough_first n k p t e = (both (enough n p t) _ (sym (enough-plus n k p t) ∙ e)).0
 
 -- ---- the room of lent lists
 

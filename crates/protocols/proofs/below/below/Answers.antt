@@ -1,43 +1,57 @@
-use Rattle.std.proofs.Common.{rules, ◌≡◌, ℕ, ◌+◌, ◌-◌, ◌*◌, ◌<◌, ◌≤◌, length, ◌/◌, ◌%◌, Bool, true, false, nat_eq, nat_lt, List, [], ◌∷◌, ◌++◌, slice_index_or, slice_set, bit_and, bit_or, Fits, w8, w32, w64, Bor, MutBor}
+-- `protocols::below::below` meets its contract.
+use Rattle.std.proofs.Common.{sym, ◌∙◌, arith}
 use Rattle.protocols.specs.Shares.{operands}
-use Rattle.protocols.specs.Protocol.{perform}
-use Rattle.protocols.specs.Outcome.{outcome, delivered, delivery}
-use Rattle.protocols.specs.Lent.{tapes_of, lists_of, Same}
-use Rattle.protocols.specs.Below as spec
+use Rattle.protocols.specs.Place.{counts, block}
+use Rattle.protocols.specs.Counts.{received}
+use Rattle.protocols.specs.Lent.{tapes_of, lists_of}
+use Rattle.protocols.specs.Bits.{bits}
+use Rattle.protocols.specs.Below.{below}
+use Rattle.protocols.proofs.Laws.Deliveries.{due_fits, words_lack, room_lacks, not_short}
+use Rattle.protocols.proofs.Laws.Puts.{tail_lent, tail_back}
+use Rattle.protocols.proofs.Laws.Lent.{enough_first, rooms, below_ends}
+use Rattle.protocols.proofs.Laws.Counts.{table_at_32}
 use Rattle.protocols.proofs.below.below.Goals as goal
 
--- src/below.rt:27:9
 pub returns-then-not-have-clause-done : goal.returns-then-not-have-clause-done
-returns-then-not-have-clause-done c = ?
+returns-then-not-have-clause-done c =
+    let a = c.args in
+    words_lack (below 5) (counts 0 18 12 12) table_at_32.below_row.drawn (operands a.u a.v) a.place (tapes_of a.tapes.now)
+    (lists_of a.lists.now) (sym c.have.ensures ∙ c.if-not-have.true)
 
--- src/below.rt:30:9
 pub returns-then-not-have_room-clause-done : goal.returns-then-not-have_room-clause-done
-returns-then-not-have_room-clause-done c = ?
+returns-then-not-have_room-clause-done c =
+    let a = c.args in
+    room_lacks (below 5) (counts 0 18 12 12) table_at_32.below_row.drawn (operands a.u a.v) a.place (tapes_of a.tapes.now)
+    (lists_of a.lists.now) (received 22 28 28 0) table_at_32.below_row.long (sym c.have.ensures ∙ c.if-not-have.false)
+    (sym c.have_room.ensures ∙ c.if-not-have_room.true)
 
--- src/below.rt:32:16
 pub rounds-requires : goal.rounds-requires
-rounds-requires c = ?
+rounds-requires c =
+    let e = enough_first (counts 0 15 12 12) (counts 0 3 0 0) _ _ (sym c.have.ensures ∙ c.if-not-have.false) in
+    let h = rooms 22 28 28 (lists_of c.args.lists.now) (sym c.have_room.ensures ∙ c.if-not-have_room.false) in
+    (rw table_at_32.bits_row.drawn e, h.0, omega (arith, h.1), omega (arith, h.2))
 
--- src/below.rt:32:16
 pub returns-in_err-word-clause-done : goal.returns-in_err-word-clause-done
-returns-in_err-word-clause-done c = ?
+returns-in_err-word-clause-done c =
+    let a = c.args in
+    let t = tapes_of a.tapes.now in
+    let l = lists_of a.lists.now in
+    let e = enough_first (counts 0 15 12 12) (counts 0 3 0 0) a.place t (sym c.have.ensures ∙ c.if-not-have.false) in
+    let h = rooms 22 28 28 l (sym c.have_room.ensures ∙ c.if-not-have_room.false) in
+    let k = due_fits 22 25 25 l (h.0, omega (arith, h.1), omega (arith, h.2)) in
+    let long = table_at_32.bits_row.long c.difference.result (block (bits 5).draws a.place t) in
+    not_short (bits 5) _ a.place t l _ (rw table_at_32.bits_row.drawn e) (λ r. omega (arith, long r, k r)) c.in_err-word.field-0.0
+    c.in_err-word.ensures.done _
 
--- src/below.rt:38:9
-pub slice_bounds-convert-count : goal.slice_bounds-convert-count
-slice_bounds-convert-count c = ?
-
--- src/below.rt:38:9
-pub slice_bounds-convert-start : goal.slice_bounds-convert-start
-slice_bounds-convert-start c = ?
-
--- src/below.rt:39:9
-pub slice_bounds-convert-count-2 : goal.slice_bounds-convert-count-2
-slice_bounds-convert-count-2 c = ?
-
--- src/below.rt:39:9
-pub slice_bounds-convert-start-2 : goal.slice_bounds-convert-start-2
-slice_bounds-convert-start-2 c = ?
-
--- src/below.rt:16:1
 pub returns-clause-done : goal.returns-clause-done
-returns-clause-done c = ?
+returns-clause-done c =
+    let a = c.args in
+    let l = lists_of a.lists.now in
+    let h = rooms 22 28 28 l (sym c.have_room.ensures ∙ c.if-not-have_room.false) in
+    simp tail_back
+    (below_ends 5 (operands a.u a.v) a.place (tapes_of a.tapes.now)
+    (rw table_at_32.below_row.drawn (sym c.have.ensures ∙ c.if-not-have.false))
+    (received 22 25 25 0) table_at_32.bits_row.long l (due_fits 22 28 28 l h)
+    (due_fits 22 25 25 l (h.0, omega (arith, h.1), omega (arith, h.2)))
+    _ _ (rw c.difference.ensures at c.in_ok-word.ensures.done)
+    c.convert.result _ _ (rw (tail_lent, tail_lent) at c.convert.ensures))
