@@ -1,22 +1,21 @@
 -- An accepted command as the code has it: played on the unfilled part of each list, then its entries written. Command.antt is what that comes to.
-use Rattle.std.specs.Prelude.{ℕ, zero, suc, ◌+◌, ◌≤◌, ◌<◌, ◌^◌, List, length, drop}
-use Rattle.protocols.specs.declared.outcome.Outcome.{Outcome}
+use Rattle.std.specs.Prelude.{ℕ, zero, suc, ◌+◌, ◌≤◌, ◌<◌, ◌^◌, List, length, drop, Option, Some, None}
 use Rattle.protocols.specs.declared.place.Place.{Place}
 use Rattle.protocols.specs.declared.place.Received.{Received}
 use Rattle.protocols.specs.declared.shares.Shares.{Shares}
 use Rattle.protocols.specs.Word.{modulus}
 use Rattle.protocols.specs.Place.{Lists, lists, Receiver, list}
 use Rattle.protocols.specs.Counts.{plus_received, due}
+use Rattle.protocols.specs.Outcome.{Outcome}
 use Rattle.protocols.specs.Local.{sum, difference, shifted, multiple}
 use Rattle.machine.specs.declared.answer.Answer.{Answer}
 use Rattle.machine.specs.declared.code.Code.{Code}
 use Rattle.machine.specs.declared.code.Code.TheVariants.{Store, Add, Subtract, AddConstant, TimesConstant, Multiply, Reshare, Bits, Bit, Equal, Open, Below}
 use Rattle.machine.specs.declared.given.Given.{Given}
-use Rattle.machine.specs.declared.play.Alone.{Alone}
-use Rattle.machine.specs.declared.play.Alone.TheVariants.{Made, Joint}
 use Rattle.machine.specs.declared.row.Row.{Row}
 use Rattle.machine.specs.Table.{row}
-use Rattle.machine.specs.Lent.{Tables, Lent}
+use Rattle.machine.specs.declared.lent.Tables as code_tables
+use Rattle.machine.specs.Lent.{Tables, tables_of, Lent}
 use Rattle.machine.specs.Steps.{both}
 use Rattle.machine.specs.Command.{answer, opened, put, with_shares}
 
@@ -36,19 +35,19 @@ pub record Begun (x : Code) (p : Place) (l : Lent) : Type 0 where
   pub received : (r : Receiver) → due r p.received ≤ length (list r l.received)
 
 -- what the miners make alone, by the command
-abbrev pub alone : Code → ℕ → Given → Alone
-alone Store b g = Joint
-alone Add b g = Made (sum (modulus 5) (both g))
-alone Subtract b g = Made (difference (modulus 5) (both g))
-alone AddConstant b g = Made (shifted (modulus 5) b g.u)
-alone TimesConstant b g = Made (multiple (modulus 5) b g.u)
-alone Multiply b g = Joint
-alone Reshare b g = Joint
-alone Bits b g = Joint
-alone Bit b g = Joint
-alone Equal b g = Joint
-alone Open b g = Joint
-alone Below b g = Joint
+abbrev pub alone : Code → ℕ → Given → Option Shares
+alone Store b g = None
+alone Add b g = Some (sum (modulus 5) (both g))
+alone Subtract b g = Some (difference (modulus 5) (both g))
+alone AddConstant b g = Some (shifted (modulus 5) b g.u)
+alone TimesConstant b g = Some (multiple (modulus 5) b g.u)
+alone Multiply b g = None
+alone Reshare b g = None
+alone Bits b g = None
+alone Bit b g = None
+alone Equal b g = None
+alone Open b g = None
+alone Below b g = None
 
 -- the place record after a value that was made alone
 abbrev pub one_more : Place → Place
@@ -74,6 +73,9 @@ pub record Stored : Type 0 where
 
 abbrev pub stored : Tables → List ℕ → Stored
 stored t k = record { tables = t; kinds = k }
+
+abbrev pub stored_of : code_tables.Tables → Stored
+stored_of t = stored (tables_of t) t.kinds.now
 
 unfoldable pub append : ℕ → ℕ → Shares → ℕ → Tables → List ℕ → Stored
 append values at s kind t kinds = stored (with_shares values t at s) (put values kinds at kind)

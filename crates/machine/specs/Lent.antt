@@ -1,5 +1,5 @@
 -- What is lent to a command. (01, 'Handles, tapes and places')
-use Rattle.std.specs.Prelude.{ℕ, ◌-◌, ◌≤◌, List, length, get_or, take}
+use Rattle.std.specs.Prelude.{ℕ, ◌≡◌, ◌-◌, ◌≤◌, List, length, get_or, take}
 use Rattle.protocols.specs.declared.place.Drawn.{Drawn}
 use Rattle.protocols.specs.declared.place.Received.{Received}
 use Rattle.protocols.specs.declared.place.Party.{Party}
@@ -9,7 +9,11 @@ use Rattle.protocols.specs.Shares.{Miner, one, two, three, shares}
 use Rattle.protocols.specs.Place.{Tapes, tape, counts, Lists, Receiver, list}
 use Rattle.protocols.specs.Counts.{received, due}
 use Rattle.protocols.specs.Contents.{Below}
+use Rattle.protocols.specs.declared.lent.Lists as code_lists
+use Rattle.protocols.specs.declared.lent.Tapes as code_tapes
+use Rattle.protocols.specs.Lent.{tapes_of, lists_of}
 use Rattle.machine.specs.declared.lent.Sizes.{Sizes}
+use Rattle.machine.specs.declared.lent.Tables as code_tables
 
 -- three share tables
 pub record Tables : Type 0 where
@@ -36,6 +40,22 @@ pub record Lent : Type 0 where
 
 abbrev pub lent : Tables → List ℕ → List ℕ → Tapes → Lists → Lent
 lent t k i s r = record { tables = t; kinds = k; inputs = i; tapes = s; received = r }
+
+-- ---- as the code holds it
+
+abbrev pub tables_of : code_tables.Tables → Tables
+tables_of t = tables t.one.now t.two.now t.three.now
+
+abbrev pub lent_of : code_tables.Tables → List ℕ → code_tapes.Tapes → code_lists.Lists → Lent
+lent_of t inputs s r = lent (tables_of t) t.kinds.now inputs (tapes_of s) (lists_of r)
+
+-- the same three tables and kind list are lent, whatever stands in them
+abbrev pub SameTables : code_tables.Tables → code_tables.Tables → Type 0
+SameTables a b =
+    (b.one.ghost_name ≡ a.one.ghost_name)
+    × (b.two.ghost_name ≡ a.two.ghost_name)
+    × (b.three.ghost_name ≡ a.three.ghost_name)
+    × (b.kinds.ghost_name ≡ a.kinds.ghost_name)
 
 -- ---- what is public of it: the lengths, and the kinds
 

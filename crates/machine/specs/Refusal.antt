@@ -1,5 +1,7 @@
 -- Why a call is turned down, as the code names it, and its number. (01, 'When a call is turned down')
 use Rattle.std.specs.Prelude.{ℕ, Result, Ok, Err}
+use Rattle.protocols.specs.declared.outcome.Shortage.{Shortage}
+use Rattle.protocols.specs.declared.outcome.Shortage.TheVariants as shortage
 use Rattle.machine.specs.declared.refusal.Refusal.{Refusal}
 use Rattle.machine.specs.declared.refusal.Refusal.TheVariants.{NotWhole, ContentsBroken, OverLimit, LentUnsoundly, UnknownCode, FieldNotZero, HandleNotFilled, WrongKind, PositionOutside, TablesFull, InputsUsed, TapeSpent, ListFull}
 
@@ -23,3 +25,8 @@ number ListFull = 13
 abbrev pub number_of : {T : Type 0} → Result T Refusal → ℕ
 number_of (Ok x) = 0
 number_of (Err r) = number r
+
+-- what a protocol lacks
+abbrev pub lacking : Shortage → Refusal
+lacking shortage.TapeSpent = TapeSpent
+lacking shortage.ListFull = ListFull

@@ -1,22 +1,28 @@
 // An accepted command, but for what its protocol still turns down: a spent tape, a full list.
-ghost use Rattle.std.specs.Prelude.{◌≡◌, ◌+◌, ◌<◌, ◌^◌};
-ghost use Rattle.protocols.specs.Place.{tapes, lists};
+ghost use Rattle.std.specs.Prelude.{◌≡◌, ◌+◌, ◌<◌, ◌≤◌, ◌^◌, length, Ok};
+ghost use Rattle.protocols.specs.Place.{lists};
+ghost use Rattle.protocols.specs.Protocol.{perform};
+ghost use Rattle.protocols.specs.Outcome.{outcome, delivered, delivery};
+ghost use Rattle.protocols.specs.Lent.{tapes_of, Same};
 ghost use Rattle.machine.specs.Table.{row};
-ghost use Rattle.machine.specs.Lent.{tables, lent, sizes};
+ghost use Rattle.machine.specs.Lent.{tables_of, lent_of, SameTables, sizes};
 ghost use Rattle.machine.specs.Verdict.{supplied, Accepted};
-ghost use Rattle.machine.specs.Command.{answer, outcome, decided};
+ghost use Rattle.machine.specs.Steps.{protocol};
+ghost use Rattle.machine.specs.Command.{answer, answer_of, decided};
 ghost use Rattle.machine.specs.Command as command;
-ghost use Rattle.machine.specs.Accept.{Begun, Fits, left, stored, append, one_more};
+ghost use Rattle.machine.specs.Accept.{Begun, Fits, unfilled, left, stored_of, append, one_more};
 ghost use Rattle.machine.specs.Accept as spec;
 
-use super::answer::Answer;
+use super::answer::Accepted;
 use super::code::{Code, Command};
 use super::given::Given;
-use super::play::Alone;
+use super::lent::Tables;
+use super::refusal::Refusal;
 use super::row::Row;
-use super::{entry, play, row};
+use super::{play, row};
+use protocols::lent::{Lists, Tapes};
 use protocols::open;
-use protocols::outcome::Outcome;
+use protocols::outcome::{Done, Shortage};
 use protocols::place::{Place, Received};
 use protocols::shares::Shares;
 
@@ -53,24 +59,18 @@ fn counted(p: Place, x: Row) -> Place
 }
 
 // A ring value that the miners made alone becomes the new handle's.
-fn store_value(
-    shares: Shares,
-    place: Place,
-    share1: &mut [u32],
-    share2: &mut [u32],
-    share3: &mut [u32],
-    kinds: &mut [u32],
-) -> Answer
+fn store_value(shares: Shares, place: Place, tables: &mut Tables) -> Accepted
     requires { place.handles + 1 < 2 ^ 64 }
-    ensures { left result (stored (tables share1.new share2.new share3.new) kinds.new) ≡ left (answer 0 (one_more place) 0) (append 1 place.handles shares 1 (tables share1.old share2.old share3.old) kinds.old) }
+    ensures same { SameTables tables.old tables.new }
+    ensures left { left (answer_of place (Ok result)) (stored_of tables.new) ≡ left (answer 0 (one_more place) 0) (append 1 place.handles shares 1 (tables_of tables.old) tables.old.kinds.now) }
 {
     let at = place.handles;
-    entry::store_entry(1, at, shares, 1, share1, share2, share3, kinds);
-    let mut moved = place;
-    moved.handles = at + 1;
-    Answer {
-        number: 0,
-        place: moved,
+    tables.store(1, at, shares, 1);
+    Accepted {
+        place: Place {
+            handles: at + 1,
+            ..place
+        },
         opened: 0,
     }
 }
@@ -79,28 +79,44 @@ fn store_value(
 fn finish(
     x: Row,
     place: Place,
-    done: Outcome,
-    share1: &mut [u32],
-    share2: &mut [u32],
-    share3: &mut [u32],
-    kinds: &mut [u32],
-) -> Answer
-    requires { done.number ≡ 0 → Fits done.place x }
-    ensures { left result (stored (tables share1.new share2.new share3.new) kinds.new) ≡ spec.finish x place done (tables share1.old share2.old share3.old) kinds.old }
+    played: Result<Done, Shortage>,
+    tables: &mut Tables,
+) -> Result<Accepted, Refusal>
+    requires { (outcome place played).number ≡ 0 → Fits (outcome place played).place x }
+    ensures same { SameTables tables.old tables.new }
+    ensures left { left (answer_of place result) (stored_of tables.new) ≡ spec.finish x place (outcome place played) (tables_of tables.old) tables.old.kinds.now }
 {
-    let number = done.number;
-    if number != 0 {
-        return Answer::untouched(number, place);
-    }
-    let at = place.handles;
-    let shares = done.shares;
-    let after = done.place;
-    entry::store_entry(x.values, at, shares, x.kind, share1, share2, share3, kinds);
-    Answer {
-        number: 0,
-        place: counted(after, x),
-        opened: opened(x, shares),
-    }
+    let done = played?;
+    tables.store(x.values, place.handles, done.shares, x.kind);
+    Ok(Accepted {
+        place: counted(done.place, x),
+        opened: opened(x, done.shares),
+    })
+}
+
+// On the unfilled part of each list.
+fn play_unfilled(
+    code: Code,
+    c: Command,
+    g: Given,
+    place: Place,
+    tapes: &Tapes,
+    one: &mut [u32],
+    two: &mut [u32],
+    three: &mut [u32],
+    controller: &mut [u32],
+) -> Result<Done, Shortage>
+    requires { let k = place.received in (k.one ≤ length one.old) × (k.two ≤ length two.old) × (k.three ≤ length three.old) × (k.controller ≤ length controller.old) }
+    ensures { let k = place.received in delivered (outcome place result) (unfilled k (lists one.new two.new three.new controller.new)) ≡ delivery place (perform (protocol 5 code c.b) g place (tapes_of tapes.now)) (unfilled k (lists one.old two.old three.old controller.old)) }
+{
+    let at = place.received;
+    let mut unfilled = Lists {
+        one: &mut one[at.one..],
+        two: &mut two[at.two..],
+        three: &mut three[at.three..],
+        controller: &mut controller[at.controller..],
+    };
+    play::play(code, c.b, g, place, tapes, &mut unfilled)
 }
 
 // The protocol's words go into the unfilled part of each list, its shares become the new handle's.
@@ -108,46 +124,30 @@ pub(crate) fn accept(
     code: Code,
     c: Command,
     place: Place,
-    share1: &mut [u32],
-    share2: &mut [u32],
-    share3: &mut [u32],
-    kinds: &mut [u32],
+    tables: &mut Tables,
     inputs: &[u32],
-    provider: &[u32],
-    tape1: &[u32],
-    tape2: &[u32],
-    tape3: &[u32],
-    received1: &mut [u32],
-    received2: &mut [u32],
-    received3: &mut [u32],
-    controller: &mut [u32],
-) -> Answer
-    requires { Begun code place (lent (tables share1.old share2.old share3.old) kinds.old inputs.now (tapes provider.now tape1.now tape2.now tape3.now) (lists received1.old received2.old received3.old controller.old)) }
-    ensures { outcome result (lent (tables share1.new share2.new share3.new) kinds.new inputs.now (tapes provider.now tape1.now tape2.now tape3.now) (lists received1.new received2.new received3.new controller.new)) ≡ decided 5 (supplied (row 5 code) place (sizes (lent (tables share1.old share2.old share3.old) kinds.old inputs.now (tapes provider.now tape1.now tape2.now tape3.now) (lists received1.old received2.old received3.old controller.old))) (Accepted code)) c place (lent (tables share1.old share2.old share3.old) kinds.old inputs.now (tapes provider.now tape1.now tape2.now tape3.now) (lists received1.old received2.old received3.old controller.old)) }
+    tapes: &Tapes,
+    lists: &mut Lists,
+) -> Result<Accepted, Refusal>
+    requires { Begun code place (lent_of tables.old inputs.now tapes.now lists.old) }
+    ensures same_tables { SameTables tables.old tables.new }
+    ensures same_lists { Same lists.old lists.new }
+    ensures decided { let l = lent_of tables.old inputs.now tapes.now lists.old in command.outcome (answer_of place result) (lent_of tables.new inputs.now tapes.now lists.new) ≡ decided 5 (supplied (row 5 code) place (sizes l) (Accepted code)) c place l }
 {
-    let g = Given::of(c, place, share1, share2, share3, inputs);
-    if let Alone::Made(shares) = play::make_alone(code, c.b, g) {
-        return store_value(shares, place, share1, share2, share3, kinds);
+    let g = Given::of(c, place, tables, inputs);
+    if let Some(shares) = play::make_alone(code, c.b, g) {
+        return Ok(store_value(shares, place, tables));
     }
-    let x = row::of(code);
-    let received = place.received;
-    let at1 = received.one;
-    let at2 = received.two;
-    let at3 = received.three;
-    let at_controller = received.controller;
-    let done = play::play(
+    let played = play_unfilled(
         code,
-        c.b,
+        c,
         g,
         place,
-        provider,
-        tape1,
-        tape2,
-        tape3,
-        &mut received1[at1..],
-        &mut received2[at2..],
-        &mut received3[at3..],
-        &mut controller[at_controller..],
+        tapes,
+        lists.one,
+        lists.two,
+        lists.three,
+        lists.controller,
     );
-    finish(x, place, done, share1, share2, share3, kinds)
+    finish(row::of(code), place, played, tables)
 }

@@ -1,53 +1,30 @@
 // One command on lent lists.
 ghost use Rattle.std.specs.Prelude.{◌≡◌};
-ghost use Rattle.protocols.specs.Place.{tapes, lists};
-ghost use Rattle.machine.specs.Table as table;
-ghost use Rattle.machine.specs.Lent.{tables, lent};
+ghost use Rattle.protocols.specs.Lent.{Same};
+ghost use Rattle.machine.specs.Lent.{lent_of, SameTables};
 ghost use Rattle.machine.specs.Command.{outcome};
 ghost use Rattle.machine.specs.Command as spec;
 
 use super::answer::Answer;
+use super::code::Command;
+use super::lent::Tables;
 use super::run;
+use protocols::lent::{Lists, Tapes};
 use protocols::place::Place;
 
 // A run of one command.
 pub fn command(
-    code: u32,
-    a: u32,
-    b: u32,
+    c: Command,
     place: Place,
-    share1: &mut [u32],
-    share2: &mut [u32],
-    share3: &mut [u32],
-    kinds: &mut [u32],
+    tables: &mut Tables,
     inputs: &[u32],
-    provider: &[u32],
-    tape1: &[u32],
-    tape2: &[u32],
-    tape3: &[u32],
-    received1: &mut [u32],
-    received2: &mut [u32],
-    received3: &mut [u32],
-    controller: &mut [u32],
+    tapes: &Tapes,
+    lists: &mut Lists,
 ) -> Answer
-    ensures { outcome result (lent (tables share1.new share2.new share3.new) kinds.new inputs.now (tapes provider.now tape1.now tape2.now tape3.now) (lists received1.new received2.new received3.new controller.new)) ≡ spec.command 5 (table.command code a b) place (lent (tables share1.old share2.old share3.old) kinds.old inputs.now (tapes provider.now tape1.now tape2.now tape3.now) (lists received1.old received2.old received3.old controller.old)) }
+    ensures same_tables { SameTables tables.old tables.new }
+    ensures same_lists { Same lists.old lists.new }
+    ensures done { outcome result (lent_of tables.new inputs.now tapes.now lists.new) ≡ spec.command 5 c place (lent_of tables.old inputs.now tapes.now lists.old) }
 {
-    let run = run::run(
-        &[code, a, b],
-        place,
-        share1,
-        share2,
-        share3,
-        kinds,
-        inputs,
-        provider,
-        tape1,
-        tape2,
-        tape3,
-        received1,
-        received2,
-        received3,
-        controller,
-    );
+    let run = run::run(&[c.code, c.a, c.b], place, tables, inputs, tapes, lists);
     run.last
 }

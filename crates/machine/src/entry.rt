@@ -1,8 +1,9 @@
 // A new handle's entries.
 ghost use Rattle.std.specs.Prelude.{◌≡◌, set};
-ghost use Rattle.machine.specs.Lent.{tables};
-ghost use Rattle.machine.specs.Accept.{stored, append};
+ghost use Rattle.machine.specs.Lent.{tables_of, SameTables};
+ghost use Rattle.machine.specs.Accept.{stored_of, append};
 
+use super::lent::Tables;
 use protocols::shares::Shares;
 
 fn write(list: &mut [u32], i: usize, word: u32)
@@ -13,24 +14,18 @@ fn write(list: &mut [u32], i: usize, word: u32)
     }
 }
 
-// In every table at the same place, where a value is due.
-pub(crate) fn store_entry(
-    values: usize,
-    at: usize,
-    s: Shares,
-    kind: u32,
-    share1: &mut [u32],
-    share2: &mut [u32],
-    share3: &mut [u32],
-    kinds: &mut [u32],
-)
-    ensures { stored (tables share1.new share2.new share3.new) kinds.new ≡ append values at s kind (tables share1.old share2.old share3.old) kinds.old }
-{
-    if values == 0 {
-        return;
+impl Tables<'_> {
+    // In every table at the same place, where a value is due.
+    pub(crate) fn store(&mut self, values: usize, at: usize, s: Shares, kind: u32)
+        ensures same { SameTables self.old self.new }
+        ensures stored { stored_of self.new ≡ append values at s kind (tables_of self.old) self.old.kinds.now }
+    {
+        if values == 0 {
+            return;
+        }
+        write(self.one, at, s.one);
+        write(self.two, at, s.two);
+        write(self.three, at, s.three);
+        write(self.kinds, at, kind);
     }
-    write(share1, at, s.one);
-    write(share2, at, s.two);
-    write(share3, at, s.three);
-    write(kinds, at, kind);
 }

@@ -1,10 +1,11 @@
 // What a command works on.
 ghost use Rattle.std.specs.Prelude.{◌≡◌};
-ghost use Rattle.machine.specs.Lent.{tables};
+ghost use Rattle.machine.specs.Lent.{tables_of};
 ghost use Rattle.machine.specs.Command.{given};
 
 use super::code::Command;
 use super::lent;
+use super::lent::Tables;
 use protocols::place::Place;
 use protocols::shares::Shares;
 
@@ -17,20 +18,13 @@ pub struct Given {
 }
 
 impl Given {
-    pub fn of(
-        c: Command,
-        p: Place,
-        share1: &[u32],
-        share2: &[u32],
-        share3: &[u32],
-        inputs: &[u32],
-    ) -> Given
-        ensures { result ≡ given (tables share1.now share2.now share3.now) inputs.now p c }
+    pub fn of(c: Command, p: Place, tables: &Tables, inputs: &[u32]) -> Given
+        ensures { result ≡ given (tables_of tables.now) inputs.now p c }
     {
         Given {
             input: lent::read(inputs, p.inputs),
-            u: lent::shares_at(share1, share2, share3, c.a),
-            v: lent::shares_at(share1, share2, share3, c.b),
+            u: tables.shares_at(c.a),
+            v: tables.shares_at(c.b),
         }
     }
 }

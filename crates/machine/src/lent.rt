@@ -1,11 +1,33 @@
 // What is lent to a command.
 ghost use Rattle.std.specs.Prelude.{◌≡◌, get_or};
-ghost use Rattle.protocols.specs.Place.{tapes, lists};
-ghost use Rattle.machine.specs.Lent.{shares_at, tables, lent, sizes};
+ghost use Rattle.machine.specs.Lent.{shares_at, tables_of, lent_of, sizes};
 ghost use Rattle.machine.specs.Lent as spec;
 
+use protocols::lent::{Lists, Tapes};
 use protocols::place::{Drawn, Received};
 use protocols::shares::Shares;
+
+// Three share tables, and the kinds of their entries.
+#[derive(Drop)]
+pub struct Tables<'a> {
+    pub one: &'a mut [u32],
+    pub two: &'a mut [u32],
+    pub three: &'a mut [u32],
+    pub kinds: &'a mut [u32],
+}
+
+impl Tables<'_> {
+    // The three shares of a handle.
+    pub fn shares_at(&self, h: u32) -> Shares
+        ensures { result ≡ shares_at (tables_of self.now) h }
+    {
+        Shares {
+            one: entry(self.one, h),
+            two: entry(self.two, h),
+            three: entry(self.three, h),
+        }
+    }
+}
 
 // The lengths of all lent lists: three share tables, kinds, inputs, tapes, received lists.
 #[derive(Clone, Copy)]
@@ -20,40 +42,26 @@ pub struct Sizes {
 }
 
 impl Sizes {
-    pub fn of(
-        share1: &[u32],
-        share2: &[u32],
-        share3: &[u32],
-        kinds: &[u32],
-        inputs: &[u32],
-        provider: &[u32],
-        tape1: &[u32],
-        tape2: &[u32],
-        tape3: &[u32],
-        received1: &[u32],
-        received2: &[u32],
-        received3: &[u32],
-        controller: &[u32],
-    ) -> Sizes
-        ensures { result ≡ sizes (lent (tables share1.now share2.now share3.now) kinds.now inputs.now (tapes provider.now tape1.now tape2.now tape3.now) (lists received1.now received2.now received3.now controller.now)) }
+    pub fn of(tables: &Tables, inputs: &[u32], tapes: &Tapes, lists: &Lists) -> Sizes
+        ensures { result ≡ sizes (lent_of tables.now inputs.now tapes.now lists.now) }
     {
         Sizes {
-            one: share1.len(),
-            two: share2.len(),
-            three: share3.len(),
-            kinds: kinds.len(),
+            one: tables.one.len(),
+            two: tables.two.len(),
+            three: tables.three.len(),
+            kinds: tables.kinds.len(),
             inputs: inputs.len(),
             tapes: Drawn {
-                provider: provider.len(),
-                one: tape1.len(),
-                two: tape2.len(),
-                three: tape3.len(),
+                provider: tapes.provider.len(),
+                one: tapes.one.len(),
+                two: tapes.two.len(),
+                three: tapes.three.len(),
             },
             received: Received {
-                one: received1.len(),
-                two: received2.len(),
-                three: received3.len(),
-                controller: controller.len(),
+                one: lists.one.len(),
+                two: lists.two.len(),
+                three: lists.three.len(),
+                controller: lists.controller.len(),
             },
         }
     }
@@ -63,29 +71,12 @@ impl Sizes {
 pub fn read(list: &[u32], i: usize) -> u32
     ensures { result ≡ get_or list.now i 0 }
 {
-    if i < list.len() {
-        return list[i];
-    }
-    0
+    list.get(i).copied().unwrap_or(0)
 }
 
 // The entry of a handle, which counts from 1.
 pub fn entry(list: &[u32], h: u32) -> u32
     ensures { result ≡ spec.entry list.now h }
 {
-    if h == 0 {
-        return read(list, 0);
-    }
-    read(list, h as usize - 1)
-}
-
-// The three shares of a handle.
-pub fn shares_at(share1: &[u32], share2: &[u32], share3: &[u32], h: u32) -> Shares
-    ensures { result ≡ shares_at (tables share1.now share2.now share3.now) h }
-{
-    Shares {
-        one: entry(share1, h),
-        two: entry(share2, h),
-        three: entry(share3, h),
-    }
+    read(list, (h as usize).saturating_sub(1))
 }

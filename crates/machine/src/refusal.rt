@@ -2,6 +2,8 @@
 ghost use Rattle.std.specs.Prelude.{◌≡◌};
 ghost use Rattle.machine.specs.Refusal as spec;
 
+use protocols::outcome::Shortage;
+
 // The lines of document 01's table, lowest number first.
 #[derive(Clone, Copy, PartialEq, Eq)]
 pub enum Refusal {
@@ -38,6 +40,17 @@ impl From<Refusal> for u32 {
             Refusal::InputsUsed => 11,
             Refusal::TapeSpent => 12,
             Refusal::ListFull => 13,
+        }
+    }
+}
+
+impl From<Shortage> for Refusal {
+    ghost from_gives = { λ shortage refusal. refusal ≡ spec.lacking shortage };
+
+    fn from(shortage: Shortage) -> Refusal {
+        match shortage {
+            Shortage::TapeSpent => Refusal::TapeSpent,
+            Shortage::ListFull => Refusal::ListFull,
         }
     }
 }

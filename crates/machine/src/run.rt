@@ -1,30 +1,34 @@
 // Commands on lent lists, up to the first that is refused.
 ghost use Rattle.std.specs.Prelude.{◌≡◌, true, nat_lt};
-ghost use Rattle.protocols.specs.Place.{tapes, lists};
-ghost use Rattle.machine.specs.Lent.{tables, lent, sizes};
+ghost use Rattle.protocols.specs.Lent.{Same};
+ghost use Rattle.machine.specs.Lent.{lent_of, SameTables, sizes};
 ghost use Rattle.machine.specs.Verdict.{sound, check};
 ghost use Rattle.machine.specs.Command.{answer};
 ghost use Rattle.machine.specs.Run.{commands_of, run_to_refusal, ended, end_of};
 
-use super::answer::{Answer, Run};
+use super::answer::{Accepted, Answer, Run};
 use super::code::Command;
-use super::lent::Sizes;
+use super::lent::{Sizes, Tables};
+use super::refusal::Refusal;
 use super::{judge, step};
+use protocols::lent::{Lists, Tapes};
 use protocols::place::Place;
 
 // Number 4 refuses the first command, if there is one.
 fn refuse_first(words: usize, start: Place) -> Run
     ensures { (result.done ≡ 0) × (result.last ≡ answer (check 4 (nat_lt words 3) 0) start 0) }
 {
-    if words < 3 {
-        return Run {
-            done: 0,
-            last: Answer::untouched(0, start),
-        };
-    }
+    let answered = if words < 3 {
+        Ok(Accepted {
+            place: start,
+            opened: 0,
+        })
+    } else {
+        Err(Refusal::LentUnsoundly)
+    };
     Run {
         done: 0,
-        last: Answer::untouched(4, start),
+        last: Answer::of(start, answered),
     }
 }
 
@@ -32,76 +36,64 @@ fn refuse_first(words: usize, start: Place) -> Run
 fn run_soundly(
     commands: &[u32],
     start: Place,
-    share1: &mut [u32],
-    share2: &mut [u32],
-    share3: &mut [u32],
-    kinds: &mut [u32],
+    tables: &mut Tables,
     inputs: &[u32],
-    provider: &[u32],
-    tape1: &[u32],
-    tape2: &[u32],
-    tape3: &[u32],
-    received1: &mut [u32],
-    received2: &mut [u32],
-    received3: &mut [u32],
-    controller: &mut [u32],
+    tapes: &Tapes,
+    lists: &mut Lists,
 ) -> Run
-    requires { sound start (sizes (lent (tables share1.old share2.old share3.old) kinds.old inputs.now (tapes provider.now tape1.now tape2.now tape3.now) (lists received1.old received2.old received3.old controller.old))) kinds.old ≡ true }
-    ensures { ended result (lent (tables share1.new share2.new share3.new) kinds.new inputs.now (tapes provider.now tape1.now tape2.now tape3.now) (lists received1.new received2.new received3.new controller.new)) ≡ end_of start (run_to_refusal 5 (commands_of commands.now) start (lent (tables share1.old share2.old share3.old) kinds.old inputs.now (tapes provider.now tape1.now tape2.now tape3.now) (lists received1.old received2.old received3.old controller.old))) }
+    requires { sound start (sizes (lent_of tables.old inputs.now tapes.now lists.old)) tables.old.kinds.now ≡ true }
+    ensures same_tables { SameTables tables.old tables.new }
+    ensures same_lists { Same lists.old lists.new }
+    ensures done { ended result (lent_of tables.new inputs.now tapes.now lists.new) ≡ end_of start (run_to_refusal 5 (commands_of commands.now) start (lent_of tables.old inputs.now tapes.now lists.old)) }
 {
-    let mut last = Answer::untouched(0, start);
-    let mut done: usize = 0;
-    let mut at: usize = 0;
-    while at + 2 < commands.len() {
-        let c = Command {
-            code: commands[at],
-            a: commands[at + 1],
-            b: commands[at + 2],
-        };
-        last = step::step(
-            c, last.place, share1, share2, share3, kinds, inputs, provider, tape1, tape2, tape3,
-            received1, received2, received3, controller,
+    let mut last = Accepted {
+        place: start,
+        opened: 0,
+    };
+    let (each, _) = commands.as_chunks::<3>();
+    for (done, words) in each.iter().enumerate() {
+        let [code, a, b] = *words;
+        let answered = step::step(
+            Command { code, a, b },
+            last.place,
+            tables,
+            inputs,
+            tapes,
+            lists,
         );
-        let refused = last.number != 0;
-        if refused {
-            return Run { done, last };
-        }
-        done += 1;
-        at += 3;
+        last = match answered {
+            Ok(accepted) => accepted,
+            Err(refusal) => {
+                return Run {
+                    done,
+                    last: Answer::of(last.place, Err(refusal)),
+                };
+            }
+        };
     }
-    Run { done, last }
+    Run {
+        done: each.len(),
+        last: Answer::of(start, Ok(last)),
+    }
 }
 
-// The commands in order, three words each. (`&*`: so the compiler hands a list's pointer and length over in place of its address.)
+// The commands in order, three words each.
 pub fn run(
     commands: &[u32],
     start: Place,
-    share1: &mut [u32],
-    share2: &mut [u32],
-    share3: &mut [u32],
-    kinds: &mut [u32],
+    tables: &mut Tables,
     inputs: &[u32],
-    provider: &[u32],
-    tape1: &[u32],
-    tape2: &[u32],
-    tape3: &[u32],
-    received1: &mut [u32],
-    received2: &mut [u32],
-    received3: &mut [u32],
-    controller: &mut [u32],
+    tapes: &Tapes,
+    lists: &mut Lists,
 ) -> Run
-    ensures { ended result (lent (tables share1.new share2.new share3.new) kinds.new inputs.now (tapes provider.now tape1.now tape2.now tape3.now) (lists received1.new received2.new received3.new controller.new)) ≡ end_of start (run_to_refusal 5 (commands_of commands.now) start (lent (tables share1.old share2.old share3.old) kinds.old inputs.now (tapes provider.now tape1.now tape2.now tape3.now) (lists received1.old received2.old received3.old controller.old))) }
+    ensures same_tables { SameTables tables.old tables.new }
+    ensures same_lists { Same lists.old lists.new }
+    ensures done { ended result (lent_of tables.new inputs.now tapes.now lists.new) ≡ end_of start (run_to_refusal 5 (commands_of commands.now) start (lent_of tables.old inputs.now tapes.now lists.old)) }
 {
-    let sizes = Sizes::of(
-        share1, share2, share3, kinds, inputs, provider, tape1, tape2, tape3, received1, received2,
-        received3, controller,
-    );
-    let unsound = !judge::is_sound(start, sizes, kinds);
+    let sizes = Sizes::of(tables, inputs, tapes, lists);
+    let unsound = !judge::is_sound(start, sizes, tables.kinds);
     if unsound {
         return refuse_first(commands.len(), start);
     }
-    run_soundly(
-        commands, start, share1, share2, share3, kinds, &*inputs, &*provider, &*tape1, &*tape2,
-        &*tape3, received1, received2, received3, controller,
-    )
+    run_soundly(commands, start, tables, inputs, tapes, lists)
 }

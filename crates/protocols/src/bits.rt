@@ -197,6 +197,7 @@ pub(crate) fn rounds(
 ) -> Result<Done, Shortage>
     requires { (enough (spec.bits 5).draws place (tapes_of tapes.now) ≡ true) × (22 ≤ length lists.old.one.now) × (25 ≤ length lists.old.two.now) × (25 ≤ length lists.old.three.now) }
     ensures same { Same lists.old lists.new }
+    ensures room { (22 ≤ length lists.new.one.now) × (25 ≤ length lists.new.two.now) × (25 ≤ length lists.new.three.now) }
     ensures done { delivered (outcome place result) (lists_of lists.new) ≡ delivery place (perform (spec.bits 5) u place (tapes_of tapes.now)) (lists_of lists.old) }
 {
     let Some((words, dealt_at)) = place.draw::<3>(Party::One, tapes.one) else {

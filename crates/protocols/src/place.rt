@@ -6,7 +6,6 @@ ghost use Rattle.protocols.specs.Printed as printed;
 
 use std::fmt;
 
-
 // Who draws: the provider, or a miner.
 #[derive(Clone, Copy, PartialEq, Eq)]
 pub enum Party {

@@ -1,5 +1,5 @@
 -- Each protocol on lent tapes, by its draws and its parts.
-use Rattle.std.proofs.Common.{◌≡◌, ℕ, ◌+◌, ◌-◌, ◌*◌, ◌≤◌, Bool, true, false, ltb, List, [], ◌∷◌, ◌++◌, length, get_or, take, drop, sym, refl, ap, ◌∙◌, add-zero, arith, length-append, length-drop, ltb-false, ltb-true}
+use Rattle.std.proofs.Common.{◌≡◌, ℕ, ◌+◌, ◌-◌, ◌*◌, ◌≤◌, Bool, true, false, leb, ltb, List, [], ◌∷◌, ◌++◌, length, get_or, take, drop, sym, refl, ap, ◌∙◌, add-zero, arith, length-append, length-drop, ltb-false, ltb-true}
 use Rattle.protocols.specs.declared.place.Party.{Party}
 use Rattle.protocols.specs.declared.place.Party.TheVariants.{Provider, One, Two, Three}
 use Rattle.protocols.specs.declared.bits.Dealt.{Dealt}
@@ -8,9 +8,13 @@ use Rattle.protocols.specs.declared.place.Received.{Received}
 use Rattle.std.specs.Prelude.{Result, Option, Some, None}
 use Rattle.protocols.specs.declared.outcome.Done.{Done}
 use Rattle.protocols.specs.declared.outcome.Shortage.{Shortage}
-use Rattle.protocols.specs.Outcome.{Outcome, outcome, Delivered, finished, delivered, delivery, fronts, puts}
+use Rattle.protocols.specs.Outcome.{Outcome, outcome, Delivered, finished, delivered, delivery, holds, fronts, puts}
 use Rattle.protocols.specs.Counts.{received, plus_received, due}
+<<<<<<< HEAD
 use Rattle.protocols.proofs.Laws.Deliveries.{one_kept, controller_kept, fronts_puts, room_true, not_spent, done_anywhere}
+=======
+use Rattle.protocols.proofs.Laws.Deliveries.{both, has_room, fronts_puts, room_true, not_spent, done_anywhere}
+>>>>>>> 983bfe192223c1913ccc39dff945e77691826122
 use Rattle.protocols.specs.Masked.{masked}
 use Rattle.protocols.specs.Bit.{bit}
 use Rattle.protocols.specs.Bits.{deal, begun, exchange, carried, round, rounds, joined, bits}
@@ -25,14 +29,14 @@ use Rattle.protocols.specs.declared.place.Place.{Place}
 use Rattle.protocols.specs.declared.shares.Shares.{Shares}
 use Rattle.protocols.specs.Word.{width, modulus}
 use Rattle.protocols.specs.Shares.{one, two, three, Operands}
-use Rattle.protocols.specs.Place.{Tapes, tapes, tape, Lists, lists, Receiver, miner, controller, list, advance, count, counts, moved, tape_number, draw_case, draw, enough, block, ◌followed_by◌, to_next, to_two_three}
+use Rattle.protocols.specs.Place.{Tapes, tapes, tape, Lists, lists, Receiver, miner, controller, list, advance, count, counts, plus, moved, tape_number, draw_case, draw, enough, block, ◌followed_by◌, to_next, to_two_three}
 use Rattle.protocols.specs.Draws.{draw_each, draw_pairs}
 use Rattle.protocols.specs.Protocol.{Protocol, ◌then◌, locally, Answer, done, spent, perform}
 use Rattle.protocols.specs.Store.{store}
 use Rattle.protocols.specs.Reshare.{reshare}
 use Rattle.protocols.specs.Multiply.{multiply}
 use Rattle.protocols.specs.Open.{opening}
-use Rattle.protocols.proofs.Laws.Draws.{after, enough_true, enough_false, Agree, enough_agree, block_agree, block-first}
+use Rattle.protocols.proofs.Laws.Draws.{after, enough_true, enough_false, Agree, enough_agree, enough-plus, block_agree, block-first}
 use Rattle.protocols.proofs.Laws.Perform.{by_each, by_pairs, by_words, and_then, preceded, perform_then, perform-locally, perform_agree, then_spent, then_done, locally_then, followed_by_silence, Performed, rounds-spent, round-done, round-spent, performs, is_spent}
 
 -- ---- the ring protocols
@@ -135,6 +139,7 @@ bit_of_one : (m j : ℕ) (u : Shares) (p : Place) (t : Tapes) → perform (bit m
 unfolding bit
 bit_of_one m j u p t = perform_agree (bit m j) u p t (tapes [] t.one [] []) (alone 3 t)
 
+<<<<<<< HEAD
 -- what Bit leaves on miner 1's tape and lists 2 and 3 is what it leaves on all
 pub bit_whole : (m j : ℕ) (u : Shares) (p : Place) (t : Tapes) (o : Outcome) (a b c d : List ℕ) {y z : List ℕ}
     → delivered o (lists [] y z []) ≡ delivery p (perform (bit m j) u p (tapes [] t.one [] [])) (lists [] b c [])
@@ -144,6 +149,22 @@ bit_whole m j u p t o a b c d {y} {z} h =
     h ∙ ap (λ (x : Answer Shares). delivery p x (lists [] b c [])) (sym (bit_of_one m j u p t)) in
     one_kept (bit m j) u p t a b c d o (λ v. bit_silent m j u v (miner one))
     (controller_kept (bit m j) u p t [] b c d o (λ v. bit_silent m j u v controller) h')
+=======
+-- ---- what is lent to the first part of a protocol
+
+pub enough_first : (n k : Drawn) (p : Place) (t : Tapes) → enough (plus n k) p t ≡ true → enough n p t ≡ true
+enough_first n k p t e = (both (enough n p t) _ (sym (enough-plus n k p t) ∙ e)).0
+
+-- ---- the room of lent lists
+
+pub rooms : (a b c : ℕ) (l : Lists) → holds l (received a b c 0) ≡ true → (a ≤ length l.one) × (b ≤ length l.two) × (c ≤ length l.three)
+rooms a b c l h = has_room a b c (length l.one) (length l.two) (length l.three) ((both (leb 0 (length l.controller)) _ h).1)
+
+-- where a protocol has put its words
+pub room_kept : {S T : Type 0} {f : Protocol S T} {s : S} {p : Place} {t : Tapes} {l₀ l : Lists} {x : T} {k : Received} {q : Place} {a b c : ℕ} → Performed f s p t l₀ x l k q
+    → (a ≤ length l₀.one) × (b ≤ length l₀.two) × (c ≤ length l₀.three) → (a ≤ length l.one) × (b ≤ length l.two) × (c ≤ length l.three)
+room_kept {l₀ = l₀} d h = rw (d.are, length-sets l₀.one 0 d.words.one, length-sets l₀.two 0 d.words.two, length-sets l₀.three 0 d.words.three) h
+>>>>>>> 983bfe192223c1913ccc39dff945e77691826122
 
 -- ---- Bits
 

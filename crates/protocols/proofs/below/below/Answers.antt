@@ -1,56 +1,57 @@
 -- `protocols::below::below` meets its contract.
-use Rattle.std.proofs.Common.{[], length, sym, ◌∙◌, arith}
+use Rattle.std.proofs.Common.{sym, ◌∙◌, arith}
 use Rattle.protocols.specs.Shares.{operands}
-use Rattle.protocols.specs.Place.{tapes, lists, counts, enough}
+use Rattle.protocols.specs.Place.{counts, block}
 use Rattle.protocols.specs.Counts.{received}
+use Rattle.protocols.specs.Lent.{tapes_of, lists_of}
+use Rattle.protocols.specs.Bits.{bits}
 use Rattle.protocols.specs.Below.{below}
-use Rattle.protocols.proofs.Laws.Deliveries.{both, has_room, due_fits, words_lack, room_lacks}
-use Rattle.protocols.proofs.Laws.Draws.{enough-plus}
+use Rattle.protocols.proofs.Laws.Deliveries.{due_fits, words_lack, room_lacks, not_short}
 use Rattle.protocols.proofs.Laws.Puts.{tail_lent, tail_back}
-use Rattle.protocols.proofs.Laws.Lent.{below_ends}
+use Rattle.protocols.proofs.Laws.Lent.{enough_first, rooms, below_ends}
 use Rattle.protocols.proofs.Laws.Counts.{table_at_32}
 use Rattle.protocols.proofs.below.below.Goals as goal
 
-pub returns-then-not-are_enough : goal.returns-then-not-are_enough
-returns-then-not-are_enough c =
+pub returns-then-not-have-clause-done : goal.returns-then-not-have-clause-done
+returns-then-not-have-clause-done c =
     let a = c.args in
-    rw c.refused.ensures
-    (words_lack (below 5) (counts 0 18 12 12) table_at_32.below_row.drawn (operands a.u a.v) a.place
-    (tapes [] a.tape1.now a.tape2.now a.tape3.now) (lists a.list1.now a.list2.now a.list3.now [])
-    (sym c.are_enough.ensures ∙ c.if-not-are_enough.true))
+    words_lack (below 5) (counts 0 18 12 12) table_at_32.below_row.drawn (operands a.u a.v) a.place (tapes_of a.tapes.now)
+    (lists_of a.lists.now) (sym c.have.ensures ∙ c.if-not-have.true)
 
-pub returns-then-not-have_room : goal.returns-then-not-have_room
-returns-then-not-have_room c =
+pub returns-then-not-have_room-clause-done : goal.returns-then-not-have_room-clause-done
+returns-then-not-have_room-clause-done c =
     let a = c.args in
-    rw c.refused-then-not-have_room.ensures
-    (room_lacks (below 5) (counts 0 18 12 12) table_at_32.below_row.drawn (operands a.u a.v) a.place
-    (tapes [] a.tape1.now a.tape2.now a.tape3.now) (lists a.list1.now a.list2.now a.list3.now []) (received 22 28 28 0)
-    table_at_32.below_row.long (sym c.are_enough.ensures ∙ c.if-not-are_enough.false)
-    (sym c.have_room.ensures ∙ c.if-not-have_room.true))
+    room_lacks (below 5) (counts 0 18 12 12) table_at_32.below_row.drawn (operands a.u a.v) a.place (tapes_of a.tapes.now)
+    (lists_of a.lists.now) (received 22 28 28 0) table_at_32.below_row.long (sym c.have.ensures ∙ c.if-not-have.false)
+    (sym c.have_room.ensures ∙ c.if-not-have_room.true)
 
-pub rounds-word-requires : goal.rounds-word-requires
-rounds-word-requires c =
-    let a = c.args in
-    let t = tapes [] a.tape1.now a.tape2.now a.tape3.now in
-    let e =
-    both (enough (counts 0 15 12 12) a.place t) _
-    (sym (enough-plus (counts 0 15 12 12) (counts 0 3 0 0) a.place t) ∙ (sym c.are_enough.ensures ∙ c.if-not-are_enough.false)) in
-    let h =
-    has_room 22 28 28 (length a.list1.now) (length a.list2.now) (length a.list3.now)
-    (sym c.have_room.ensures ∙ c.if-not-have_room.false) in
-    (rw table_at_32.bits_row.drawn e.0, h.0, omega (arith, h.1), omega (arith, h.2))
+pub rounds-requires : goal.rounds-requires
+rounds-requires c =
+    let e = enough_first (counts 0 15 12 12) (counts 0 3 0 0) _ _ (sym c.have.ensures ∙ c.if-not-have.false) in
+    let h = rooms 22 28 28 (lists_of c.args.lists.now) (sym c.have_room.ensures ∙ c.if-not-have_room.false) in
+    (rw table_at_32.bits_row.drawn e, h.0, omega (arith, h.1), omega (arith, h.2))
 
-pub returns : goal.returns
-returns c =
+pub returns-in_err-word-clause-done : goal.returns-in_err-word-clause-done
+returns-in_err-word-clause-done c =
     let a = c.args in
-    let l = lists a.list1.now a.list2.now a.list3.now [] in
-    let h =
-    has_room 22 28 28 (length a.list1.now) (length a.list2.now) (length a.list3.now)
-    (sym c.have_room.ensures ∙ c.if-not-have_room.false) in
+    let t = tapes_of a.tapes.now in
+    let l = lists_of a.lists.now in
+    let e = enough_first (counts 0 15 12 12) (counts 0 3 0 0) a.place t (sym c.have.ensures ∙ c.if-not-have.false) in
+    let h = rooms 22 28 28 l (sym c.have_room.ensures ∙ c.if-not-have_room.false) in
+    let k = due_fits 22 25 25 l (h.0, omega (arith, h.1), omega (arith, h.2)) in
+    let long = table_at_32.bits_row.long c.difference.result (block (bits 5).draws a.place t) in
+    not_short (bits 5) _ a.place t l _ (rw table_at_32.bits_row.drawn e) (λ r. omega (arith, long r, k r)) c.in_err-word.field-0.0
+    c.in_err-word.ensures.done _
+
+pub returns-clause-done : goal.returns-clause-done
+returns-clause-done c =
+    let a = c.args in
+    let l = lists_of a.lists.now in
+    let h = rooms 22 28 28 l (sym c.have_room.ensures ∙ c.if-not-have_room.false) in
     simp tail_back
-    (below_ends 5 (operands a.u a.v) a.place (tapes [] a.tape1.now a.tape2.now a.tape3.now)
-    (rw table_at_32.below_row.drawn (sym c.are_enough.ensures ∙ c.if-not-are_enough.false))
+    (below_ends 5 (operands a.u a.v) a.place (tapes_of a.tapes.now)
+    (rw table_at_32.below_row.drawn (sym c.have.ensures ∙ c.if-not-have.false))
     (received 22 25 25 0) table_at_32.bits_row.long l (due_fits 22 28 28 l h)
     (due_fits 22 25 25 l (h.0, omega (arith, h.1), omega (arith, h.2)))
-    c.rounds-word.result _ (rw c.difference.ensures at c.rounds-word.ensures)
-    c.bit.result _ _ (rw (tail_lent, tail_lent) at c.bit.ensures))
+    _ _ (rw c.difference.ensures at c.in_ok-word.ensures.done)
+    c.convert.result _ _ (rw (tail_lent, tail_lent) at c.convert.ensures))

@@ -1,31 +1,28 @@
 -- `protocols::bits::bits` meets its contract.
-use Rattle.std.proofs.Common.{[], length, sym, ◌∙◌}
-use Rattle.protocols.specs.Place.{tapes, lists, counts}
+use Rattle.std.proofs.Common.{sym, ◌∙◌}
+use Rattle.protocols.specs.Place.{counts}
 use Rattle.protocols.specs.Counts.{received}
+use Rattle.protocols.specs.Lent.{tapes_of, lists_of}
 use Rattle.protocols.specs.Bits.{bits}
-use Rattle.protocols.proofs.Laws.Deliveries.{has_room, words_lack, room_lacks}
+use Rattle.protocols.proofs.Laws.Deliveries.{words_lack, room_lacks}
+use Rattle.protocols.proofs.Laws.Lent.{rooms}
 use Rattle.protocols.proofs.Laws.Counts.{table_at_32}
 use Rattle.protocols.proofs.bits.bits.Goals as goal
 
-pub returns-then-not-are_enough : goal.returns-then-not-are_enough
-returns-then-not-are_enough c =
+pub returns-then-not-have-clause-done : goal.returns-then-not-have-clause-done
+returns-then-not-have-clause-done c =
     let a = c.args in
-    rw c.refused.ensures
-    (words_lack (bits 5) (counts 0 15 12 12) table_at_32.bits_row.drawn a.u a.place (tapes [] a.tape1.now a.tape2.now a.tape3.now)
-    (lists a.list1.now a.list2.now a.list3.now []) (sym c.are_enough.ensures ∙ c.if-not-are_enough.true))
+    words_lack (bits 5) (counts 0 15 12 12) table_at_32.bits_row.drawn a.u a.place (tapes_of a.tapes.now) (lists_of a.lists.now)
+    (sym c.have.ensures ∙ c.if-not-have.true)
 
-pub returns-then-not-have_room : goal.returns-then-not-have_room
-returns-then-not-have_room c =
+pub returns-then-not-have_room-clause-done : goal.returns-then-not-have_room-clause-done
+returns-then-not-have_room-clause-done c =
     let a = c.args in
-    rw c.refused-then-not-have_room.ensures
-    (room_lacks (bits 5) (counts 0 15 12 12) table_at_32.bits_row.drawn a.u a.place (tapes [] a.tape1.now a.tape2.now a.tape3.now)
-    (lists a.list1.now a.list2.now a.list3.now []) (received 22 25 25 0) table_at_32.bits_row.long
-    (sym c.are_enough.ensures ∙ c.if-not-are_enough.false) (sym c.have_room.ensures ∙ c.if-not-have_room.true))
+    room_lacks (bits 5) (counts 0 15 12 12) table_at_32.bits_row.drawn a.u a.place (tapes_of a.tapes.now) (lists_of a.lists.now)
+    (received 22 25 25 0) table_at_32.bits_row.long (sym c.have.ensures ∙ c.if-not-have.false)
+    (sym c.have_room.ensures ∙ c.if-not-have_room.true)
 
 pub rounds-requires : goal.rounds-requires
 rounds-requires c =
-    let a = c.args in
-    let h =
-    has_room 22 25 25 (length a.list1.now) (length a.list2.now) (length a.list3.now)
-    (sym c.have_room.ensures ∙ c.if-not-have_room.false) in
-    (rw table_at_32.bits_row.drawn (sym c.are_enough.ensures ∙ c.if-not-are_enough.false), h.0, h.1, h.2)
+    let h = rooms 22 25 25 (lists_of c.args.lists.now) (sym c.have_room.ensures ∙ c.if-not-have_room.false) in
+    (rw table_at_32.bits_row.drawn (sym c.have.ensures ∙ c.if-not-have.false), h.0, h.1, h.2)

@@ -1,6 +1,6 @@
 -- Before round k the loop has performed the dealing and k rounds of the definition, and the lists hold the words sent in them.
-use Rattle.std.proofs.Common.{◌-◌, ◌≤◌, []}
-use Rattle.protocols.specs.Place.{tapes, lists}
+use Rattle.std.proofs.Common.{◌≤◌, length}
+use Rattle.protocols.specs.Lent.{tapes_of, lists_of, Same}
 use Rattle.protocols.specs.Bits.{rounds}
 use Rattle.protocols.proofs.Laws.Perform.{Performed}
 use Rattle.protocols.proofs.Laws.Lent.{sent_before}
@@ -8,10 +8,7 @@ use Rattle.protocols.proofs.bits.rounds.Given as goal
 
 abbrev pub invariant-loop-k : goal.invariant-loop-k
 invariant-loop-k l = record {
-  within : l.k ≤ 5;
-  done : Performed (rounds 5 l.k) l.fn.u l.fn.place (tapes [] l.tape1 l.tape2 l.tape3) (lists l.fn.list1 l.fn.list2 l.fn.list3 []) l.held
-      (lists l.list1 l.list2 l.list3 []) (sent_before l.k) l.at;
+  same : Same l.fn.lists l.lists;
+  room : (22 ≤ length l.lists.one.now) × (25 ≤ length l.lists.two.now) × (25 ≤ length l.lists.three.now);
+  done : Performed (rounds 5 l.k) l.fn.u l.fn.place (tapes_of l.tapes) (lists_of l.fn.lists) l.held (lists_of l.lists) (sent_before l.k) l.at;
 }
-
-abbrev pub decreases-loop-k : goal.decreases-loop-k
-decreases-loop-k l = 5 - l.k
