@@ -10,11 +10,7 @@ use Rattle.protocols.specs.declared.outcome.Done.{Done}
 use Rattle.protocols.specs.declared.outcome.Shortage.{Shortage}
 use Rattle.protocols.specs.Outcome.{Outcome, outcome, Delivered, finished, delivered, delivery, holds, fronts, puts}
 use Rattle.protocols.specs.Counts.{received, plus_received, due}
-<<<<<<< HEAD
-use Rattle.protocols.proofs.Laws.Deliveries.{one_kept, controller_kept, fronts_puts, room_true, not_spent, done_anywhere}
-=======
-use Rattle.protocols.proofs.Laws.Deliveries.{both, has_room, fronts_puts, room_true, not_spent, done_anywhere}
->>>>>>> 983bfe192223c1913ccc39dff945e77691826122
+use Rattle.protocols.proofs.Laws.Deliveries.{both, has_room, one_kept, controller_kept, fronts_puts, room_true, not_spent, done_anywhere}
 use Rattle.protocols.specs.Masked.{masked}
 use Rattle.protocols.specs.Bit.{bit}
 use Rattle.protocols.specs.Bits.{deal, begun, exchange, carried, round, rounds, joined, bits}
@@ -139,7 +135,6 @@ bit_of_one : (m j : ℕ) (u : Shares) (p : Place) (t : Tapes) → perform (bit m
 unfolding bit
 bit_of_one m j u p t = perform_agree (bit m j) u p t (tapes [] t.one [] []) (alone 3 t)
 
-<<<<<<< HEAD
 -- what Bit leaves on miner 1's tape and lists 2 and 3 is what it leaves on all
 pub bit_whole : (m j : ℕ) (u : Shares) (p : Place) (t : Tapes) (o : Outcome) (a b c d : List ℕ) {y z : List ℕ}
     → delivered o (lists [] y z []) ≡ delivery p (perform (bit m j) u p (tapes [] t.one [] [])) (lists [] b c [])
@@ -149,7 +144,7 @@ bit_whole m j u p t o a b c d {y} {z} h =
     h ∙ ap (λ (x : Answer Shares). delivery p x (lists [] b c [])) (sym (bit_of_one m j u p t)) in
     one_kept (bit m j) u p t a b c d o (λ v. bit_silent m j u v (miner one))
     (controller_kept (bit m j) u p t [] b c d o (λ v. bit_silent m j u v controller) h')
-=======
+
 -- ---- what is lent to the first part of a protocol
 
 pub enough_first : (n k : Drawn) (p : Place) (t : Tapes) → enough (plus n k) p t ≡ true → enough n p t ≡ true
@@ -164,7 +159,6 @@ rooms a b c l h = has_room a b c (length l.one) (length l.two) (length l.three) 
 pub room_kept : {S T : Type 0} {f : Protocol S T} {s : S} {p : Place} {t : Tapes} {l₀ l : Lists} {x : T} {k : Received} {q : Place} {a b c : ℕ} → Performed f s p t l₀ x l k q
     → (a ≤ length l₀.one) × (b ≤ length l₀.two) × (c ≤ length l₀.three) → (a ≤ length l.one) × (b ≤ length l.two) × (c ≤ length l.three)
 room_kept {l₀ = l₀} d h = rw (d.are, length-sets l₀.one 0 d.words.one, length-sets l₀.two 0 d.words.two, length-sets l₀.three 0 d.words.three) h
->>>>>>> 983bfe192223c1913ccc39dff945e77691826122
 
 -- ---- Bits
 
