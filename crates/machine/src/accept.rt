@@ -1,16 +1,17 @@
 // An accepted command, but for what its protocol still turns down: a spent tape, a full list.
-ghost use Rattle.std.specs.Prelude.{◌≡◌, ◌+◌, ◌<◌, ◌≤◌, ◌^◌, length, Ok};
+ghost use Rattle.std.specs.Prelude.{◌≡◌, ◌+◌, ◌<◌, ◌^◌, Ok};
 ghost use Rattle.protocols.specs.Place.{lists};
 ghost use Rattle.protocols.specs.Protocol.{perform};
 ghost use Rattle.protocols.specs.Outcome.{outcome, delivered, delivery};
 ghost use Rattle.protocols.specs.Lent.{tapes_of, Same};
 ghost use Rattle.machine.specs.Table.{row};
 ghost use Rattle.machine.specs.Lent.{tables_of, lent_of, SameTables, sizes};
-ghost use Rattle.machine.specs.Verdict.{supplied, Accepted};
+ghost use Rattle.machine.specs.Verdict.{supplied};
+ghost use Rattle.machine.specs.Verdict as verdict;
 ghost use Rattle.machine.specs.Steps.{protocol};
 ghost use Rattle.machine.specs.Command.{answer, answer_of, decided};
 ghost use Rattle.machine.specs.Command as command;
-ghost use Rattle.machine.specs.Accept.{Begun, Fits, unfilled, left, stored_of, append, one_more};
+ghost use Rattle.machine.specs.Accept.{Begun, Fits, left, stored_of, append, one_more};
 ghost use Rattle.machine.specs.Accept as spec;
 
 use super::answer::Accepted;
@@ -94,8 +95,8 @@ fn finish(
     })
 }
 
-// On the unfilled part of each list.
-fn play_unfilled(
+// On lists that are lent one by one, as the parts of lent lists are.
+fn play_on(
     code: Code,
     c: Command,
     g: Given,
@@ -106,17 +107,15 @@ fn play_unfilled(
     three: &mut [u32],
     controller: &mut [u32],
 ) -> Result<Done, Shortage>
-    requires { let k = place.received in (k.one ≤ length one.old) × (k.two ≤ length two.old) × (k.three ≤ length three.old) × (k.controller ≤ length controller.old) }
-    ensures { let k = place.received in delivered (outcome place result) (unfilled k (lists one.new two.new three.new controller.new)) ≡ delivery place (perform (protocol 5 code c.b) g place (tapes_of tapes.now)) (unfilled k (lists one.old two.old three.old controller.old)) }
+    ensures { delivered (outcome place result) (lists one.new two.new three.new controller.new) ≡ delivery place (perform (protocol 5 code c.b) g place (tapes_of tapes.now)) (lists one.old two.old three.old controller.old) }
 {
-    let at = place.received;
-    let mut unfilled = Lists {
-        one: &mut one[at.one..],
-        two: &mut two[at.two..],
-        three: &mut three[at.three..],
-        controller: &mut controller[at.controller..],
+    let mut lists = Lists {
+        one,
+        two,
+        three,
+        controller,
     };
-    play::play(code, c.b, g, place, tapes, &mut unfilled)
+    play::play(code, c.b, g, place, tapes, &mut lists)
 }
 
 // The protocol's words go into the unfilled part of each list, its shares become the new handle's.
@@ -132,22 +131,23 @@ pub(crate) fn accept(
     requires { Begun code place (lent_of tables.old inputs.now tapes.now lists.old) }
     ensures same_tables { SameTables tables.old tables.new }
     ensures same_lists { Same lists.old lists.new }
-    ensures decided { let l = lent_of tables.old inputs.now tapes.now lists.old in command.outcome (answer_of place result) (lent_of tables.new inputs.now tapes.now lists.new) ≡ decided 5 (supplied (row 5 code) place (sizes l) (Accepted code)) c place l }
+    ensures decided { let l = lent_of tables.old inputs.now tapes.now lists.old in command.outcome (answer_of place result) (lent_of tables.new inputs.now tapes.now lists.new) ≡ decided 5 (supplied (row 5 code) place (sizes l) (verdict.Accepted code)) c place l }
 {
     let g = Given::of(c, place, tables, inputs);
     if let Some(shares) = play::make_alone(code, c.b, g) {
         return Ok(store_value(shares, place, tables));
     }
-    let played = play_unfilled(
+    let at = place.received;
+    let played = play_on(
         code,
         c,
         g,
         place,
         tapes,
-        lists.one,
-        lists.two,
-        lists.three,
-        lists.controller,
+        &mut lists.one[at.one..],
+        &mut lists.two[at.two..],
+        &mut lists.three[at.three..],
+        &mut lists.controller[at.controller..],
     );
     finish(row::of(code), place, played, tables)
 }

@@ -17,6 +17,13 @@ pub struct Tables<'a> {
 }
 
 impl Tables<'_> {
+    // The kinds alone, for what may see no share.
+    pub fn kinds(&self) -> &[u32]
+        ensures { result.now ≡ self.now.kinds.now }
+    {
+        self.kinds
+    }
+
     // The three shares of a handle.
     pub fn shares_at(&self, h: u32) -> Shares
         ensures { result ≡ shares_at (tables_of self.now) h }

@@ -91,7 +91,7 @@ pub fn run(
     ensures done { ended result (lent_of tables.new inputs.now tapes.now lists.new) ≡ end_of start (run_to_refusal 5 (commands_of commands.now) start (lent_of tables.old inputs.now tapes.now lists.old)) }
 {
     let sizes = Sizes::of(tables, inputs, tapes, lists);
-    let unsound = !judge::is_sound(start, sizes, tables.kinds);
+    let unsound = !judge::is_sound(start, sizes, tables.kinds());
     if unsound {
         return refuse_first(commands.len(), start);
     }

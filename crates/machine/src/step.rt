@@ -29,6 +29,13 @@ pub(crate) fn step(
     ensures done { outcome (answer_of place result) (lent_of tables.new inputs.now tapes.now lists.new) ≡ spec.command 5 c place (lent_of tables.old inputs.now tapes.now lists.old) }
 {
     let code = Code::try_from(c.code)?;
-    judge::fields_and_room(code, c, place, tables.one.len(), inputs.len(), tables.kinds)?;
+    judge::fields_and_room(
+        code,
+        c,
+        place,
+        tables.one.len(),
+        inputs.len(),
+        tables.kinds(),
+    )?;
     accept::accept(code, c, place, tables, inputs, tapes, lists)
 }

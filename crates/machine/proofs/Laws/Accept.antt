@@ -1,4 +1,5 @@
 -- What the code's steps come to: a command from its row on.
+use Rattle.std.specs.Prelude.{Option, Some, None}
 use Prim.Native.Nat.{ℕ, zero, suc, ◌+◌, ◌-◌, ◌≤◌, ◌<◌, ◌^◌}
 use mathlib.Core.Path.{◌≡◌, refl, sym, ap, subst, ◌∙◌}
 use mathlib.Core.Bool.{true, ◌&&◌}
@@ -6,7 +7,7 @@ use mathlib.Core.List.{List, ◌++◌}
 use native.Mathlib.Omega.{arith}
 use lib.Dec.{leb, leb-zero}
 use lib.ListN.{length, take, drop, set, take-append-drop}
-use Rattle.protocols.specs.declared.outcome.Outcome.{Outcome}
+use Rattle.protocols.specs.Outcome.{Outcome}
 use Rattle.protocols.specs.declared.place.Place.{Place}
 use Rattle.protocols.specs.declared.place.Received.{Received}
 use Rattle.protocols.specs.declared.shares.Shares.{Shares}
@@ -21,8 +22,6 @@ use Rattle.machine.specs.declared.code.Code.{Code}
 use Rattle.machine.specs.declared.code.Code.TheVariants.{Store, Add, Subtract, AddConstant, TimesConstant, Multiply, Reshare, Bits, Bit, Equal, Open, Below}
 use Rattle.machine.specs.declared.code.Command.{Command}
 use Rattle.machine.specs.declared.given.Given.{Given}
-use Rattle.machine.specs.declared.play.Alone.{Alone}
-use Rattle.machine.specs.declared.play.Alone.TheVariants.{Made, Joint}
 use Rattle.machine.specs.declared.lent.Sizes.{Sizes}
 use Rattle.machine.specs.declared.row.Row.{Row}
 use Rattle.machine.specs.Table.{row, moved}
@@ -31,6 +30,7 @@ use Rattle.machine.specs.Verdict.{Verdict, Accepted, supplied}
 use Rattle.machine.specs.Steps.{protocol}
 use Rattle.machine.specs.Command.{Outcome as Done, answer, outcome, given, opened, with_words, decided, accepted}
 use Rattle.machine.specs.Accept.{Begun, Fits, alone, one_more, counted, unfilled, Stored, stored, append, left, finished, finish}
+use Rattle.machine.proofs.Laws.Play.{made, Joins}
 use Rattle.machine.proofs.Laws.Steps.{steps_counted}
 use Rattle.machine.proofs.Laws.Supplied.{Told, lacking, having, f, g, drawn, supplied-told}
 
@@ -184,14 +184,6 @@ one_value p = λ i. record {
   received = received (still p.received.one i) (still p.received.two i) (still p.received.three i) (still p.received.controller i);
 }
 
-abbrev made : Alone → Shares
-made (Made s) = s
-made Joint = shares 0 0 0
-
-abbrev Joins : Alone → Type 0
-Joins (Made s) = ⊥
-Joins Joint = Unit {0}
-
 module _ (c : Command) (p : Place) (l : Lent) where
   -- with the shares s as the new handle's
   abbrev with_value : Shares → Done
@@ -203,7 +195,7 @@ module _ (c : Command) (p : Place) (l : Lent) where
   by_row : (x : Code) → (row 5 x).drawn ≡ counts 0 0 0 0 → (row 5 x).received ≡ received 0 0 0 0 → accepted 5 x c p l ≡ is_left x
   by_row x ed er = sym (ap (λ (v : Verdict). decided 5 v c p l) (needs_nothing p (sizes l) (Accepted x) (row 5 x) ed er))
 
-  value-left : (x : Code) {s : Shares} → alone x c.b (given l.tables l.inputs p c) ≡ Made s → with_value s ≡ is_left x
+  value-left : (x : Code) {s : Shares} → alone x c.b (given l.tables l.inputs p c) ≡ Some s → with_value s ≡ is_left x
   unfolding accepted append protocol
   value-left Store e = absurd (subst Joins e tt)
   value-left Add e = sym (ap (λ a. with_value (made a)) e) ∙ (λ i. outcome (answer 0 (one_value p i) 0) (accepted 5 Add c p l).lent) ∙ by_row Add refl refl
@@ -219,10 +211,10 @@ module _ (c : Command) (p : Place) (l : Lent) where
   value-left Below e = absurd (subst Joins e tt)
 
   -- an entry is due, and there is one
-  pub value_fits : (x : Code) (q : Given) {a : Alone} {s : Shares} → Begun x p l → length l.tables.one < 2 ^ 64 → a ≡ alone x c.b q → a ≡ Made s → p.handles + 1 < 2 ^ 64
+  pub value_fits : (x : Code) (q : Given) {a : Option Shares} {s : Shares} → Begun x p l → length l.tables.one < 2 ^ 64 → a ≡ alone x c.b q → a ≡ Some s → p.handles + 1 < 2 ^ 64
   value_fits x q begun h ea es = omega (arith, h, begun.entries, due x (sym ea ∙ es))
     where
-      due : (x : Code) {s : Shares} → alone x c.b q ≡ Made s → (row 5 x).values ≡ 1
+      due : (x : Code) {s : Shares} → alone x c.b q ≡ Some s → (row 5 x).values ≡ 1
       due Store e = refl
       due Add e = refl
       due Subtract e = refl
@@ -236,7 +228,7 @@ module _ (c : Command) (p : Place) (l : Lent) where
       due Open e = absurd (subst Joins e tt)
       due Below e = refl
 
-  pub alone-left : (x : Code) {q : Given} {s : Shares} {a : Answer} {e : Stored} → q ≡ given l.tables l.inputs p c → alone x c.b q ≡ Made s
+  pub alone-left : (x : Code) {q : Given} {s : Shares} {a : Answer} {e : Stored} → q ≡ given l.tables l.inputs p c → alone x c.b q ≡ Some s
       → left a e ≡ left (answer 0 (one_more p) 0) (append 1 p.handles s 1 l.tables l.kinds)
       → outcome a (lent e.tables e.kinds l.inputs l.tapes l.received) ≡ is_left x
   alone-left x eq em ee =

@@ -1,4 +1,6 @@
 -- The run of a list of commands, a command a turn: what was done, the last answer, and what is lent.
+use Rattle.std.specs.Simd.{first_chunks}
+use Rattle.std.proofs.Common.{◌*◌, ◌/◌}
 use Prim.Native.Nat.{ℕ, suc, ◌+◌, ◌≤◌, ◌<◌}
 use mathlib.Core.Path.{◌≡◌, refl, sym, ap, ◌∙◌}
 use mathlib.Core.Bool.{Bool, true, false, cond}
@@ -18,7 +20,7 @@ use Rattle.machine.specs.Verdict.{sound, check, verdict}
 use Rattle.machine.specs.Command.{Outcome, answer, outcome, command}
 use Rattle.machine.specs.Run.{Ran, ran, before, run_to_refusal, commands_of, accepted, refused_with, last_of, Ended, ended, end_of}
 use Rattle.machine.proofs.Laws.Runs.{to_refusal_none, to_refusal-first}
-use Rattle.machine.proofs.Laws.Threes.{commands-one, commands_end, commands_turn}
+use Rattle.machine.proofs.Laws.Threes.{nth, nth_is, commands-one, commands_end, commands_turn}
 use Rattle.machine.proofs.Laws.Sound.{sound-after}
 
 -- what the commands are lent, list by list
@@ -87,6 +89,35 @@ module _ (cs : List ℕ) (at k : ℕ) (a : Answer) (l : Lent) where
   pub run_end : length cs ≤ at + 2 → ended (record { done = k; last = a }) l ≡ end_after k a (run_to_refusal 5 (commands_of (drop at cs)) a.place l)
   unfolding accepted last_of
   run_end h = rw (commands_end cs at h, to_refusal_none, none_more k)
+
+-- ---- a turn takes the next three words
+
+-- after k commands, the last of them with the answer 0, on what is lent now
+module _ (cs : List ℕ) (ws : List (List ℕ)) (k : ℕ) (p : Place) (w : ℕ) (l : Lent) (three : ws ≡ first_chunks 3 (length cs / 3) cs) where
+  module _ (h : k < length cs / 3) (o : Outcome) (eo : o ≡ command 5 (nth ws k) p l) where
+    in_range : 3 * k + 2 < length cs
+    in_range = omega (arith, h)
+
+    asked_is : o ≡ command 5 (asked (get_or cs (3 * k) 0) (get_or cs (3 * k + 1) 0) (get_or cs (3 * k + 2) 0)) p l
+    asked_is = eo ∙ ap (λ (c : Command). command 5 c p l) (nth_is cs ws k three h)
+
+    pub turn_goes_on : o.answer.number ≡ 0
+        → end_after (k + 1) o.answer (run_to_refusal 5 (commands_of (drop (3 * (k + 1)) cs)) o.answer.place o.lent)
+        ≡ end_after k (answer 0 p w) (run_to_refusal 5 (commands_of (drop (3 * k) cs)) p l)
+    turn_goes_on e =
+        let n : 3 * (k + 1) ≡ 3 * k + 3 = omega arith in
+        rw n (run_turn cs (3 * k) k (answer 0 p w) l in_range o asked_is e)
+
+    pub turn_stops : ¬ (o.answer.number ≡ 0)
+        → ended (record { done = k; last = o.answer }) o.lent ≡ end_after k (answer 0 p w) (run_to_refusal 5 (commands_of (drop (3 * k) cs)) p l)
+    turn_stops e = run_stop cs (3 * k) k (answer 0 p w) l in_range o asked_is e
+
+    pub turn_sound : sound p (sizes l) l.kinds ≡ true → sound o.answer.place (sizes o.lent) o.lent.kinds ≡ true
+    turn_sound s = run_sound cs (3 * k) k (answer 0 p w) l in_range o asked_is s
+
+  pub turns_end : length cs / 3 ≡ k
+      → ended (record { done = k; last = answer 0 p w }) l ≡ end_after k (answer 0 p w) (run_to_refusal 5 (commands_of (drop (3 * k) cs)) p l)
+  turns_end e = run_end cs (3 * k) k (answer 0 p w) l (omega (arith, e))
 
 -- ---- a run of none, and one where number 4 applies
 

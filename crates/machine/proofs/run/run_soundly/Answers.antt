@@ -1,45 +1,43 @@
 -- `machine::run::run_soundly` meets its contract: a turn of the loop is a turn of the run.
-use Rattle.std.proofs.Common.{◌∙◌, arith}
-use Rattle.machine.specs.Lent.{Lent}
-use Rattle.machine.proofs.Laws.RunTurns.{held, start-sound, run-start, start-place, run_turn, run_stop, run_sound, run_end}
+use Rattle.std.proofs.Common.{◌≡◌, ℕ, ◌+◌, ◌<◌, ◌/◌, length, refl, sym, ◌∙◌, arith}
+use Rattle.machine.proofs.Laws.Tested.{numbered}
+use Rattle.machine.proofs.Laws.RunTurns.{turn_goes_on, turn_stops, turn_sound, turns_end}
 use Rattle.machine.proofs.run.run_soundly.Goals as goal
 
-pub loop-at-init : goal.loop-at-init
-loop-at-init c =
-    let a = c.args in
-    let begun = c.untouched-last in
-    let first : Lent =
-    held a.share1.now a.share2.now a.share3.now a.kinds.now a.inputs.now a.provider.now a.tape1.now a.tape2.now a.tape3.now a.received1.now
-    a.received2.now a.received3.now a.controller.now in
+-- what is lent stays the same from turn to turn
+still : {a₁ a₂ a₃ a₄ b₁ b₂ b₃ b₄ c₁ c₂ c₃ c₄ : ℕ} → (a₁ ≡ b₁) × (a₂ ≡ b₂) × (a₃ ≡ b₃) × (a₄ ≡ b₄) → (b₁ ≡ c₁) × (b₂ ≡ c₂) × (b₃ ≡ c₃) × (b₄ ≡ c₄)
+    → (a₁ ≡ c₁) × (a₂ ≡ c₂) × (a₃ ≡ c₃) × (a₄ ≡ c₄)
+still e f = (e.0 ∙ f.0, e.1 ∙ f.1, e.2 ∙ f.2, e.3 ∙ f.3)
+
+pub returns-in-Err-clause-done : goal.returns-in-Err-clause-done
+returns-in-Err-clause-done c =
+    let l = c.loop-done in
+    let h : l.done < length c.args.commands.now / 3 = rw c.as_chunks.ensures.front_len at c.loop-done-test.true in
+    rw c.of.ensures
+    (turn_stops c.args.commands.now c.as_chunks.result.0.now l.done l.last.place l.last.opened _ c.as_chunks.ensures.front h _ c.in-Err.ensures.done
+    (λ e. omega (arith, e, numbered c.in-Err.refusal))
+    ∙ l.invariant.comes_to_the_whole)
+
+pub loop-done-preserved : goal.loop-done-preserved
+loop-done-preserved c =
+    let l = c.loop-done in
+    let h : l.done < length c.args.commands.now / 3 = rw c.as_chunks.ensures.front_len at c.loop-done-test.true in
     record {
-      in_range = omega arith;
-      counted = omega arith;
-      stays_sound = start-sound a.start first begun.result begun.ensures c.requires;
+      same_tables = still (c.in-Ok.ensures.same_tables) l.invariant.same_tables;
+      same_lists = still (c.in-Ok.ensures.same_lists) l.invariant.same_lists;
+      stays_sound =
+          turn_sound c.args.commands.now c.as_chunks.result.0.now l.done l.last.place l.last.opened _ c.as_chunks.ensures.front h _ c.in-Ok.ensures.done
+          l.invariant.stays_sound;
       comes_to_the_whole =
-          run-start a.commands.now a.start first begun.result begun.ensures ∙ start-place a.commands.now a.start first begun.result begun.ensures;
-    }
-
-pub step-last-requires : goal.step-last-requires
-step-last-requires c = c.loop-at.invariant.stays_sound
-
-pub returns-then-refused : goal.returns-then-refused
-returns-then-refused c =
-    let l = c.loop-at in
-    run_stop c.args.commands.now l.at l.done l.last _ c.loop-at-test.true _ c.step-last.ensures c.if-refused.true ∙ l.invariant.comes_to_the_whole
-
-pub loop-at-preserved : goal.loop-at-preserved
-loop-at-preserved c =
-    let l = c.loop-at in
-    record {
-      in_range = omega arith;
-      counted = omega arith;
-      stays_sound = run_sound c.args.commands.now l.at l.done l.last _ c.loop-at-test.true _ c.step-last.ensures l.invariant.stays_sound;
-      comes_to_the_whole =
-          run_turn c.args.commands.now l.at l.done l.last _ c.loop-at-test.true _ c.step-last.ensures c.if-refused.false
+          turn_goes_on c.args.commands.now c.as_chunks.result.0.now l.done l.last.place l.last.opened _ c.as_chunks.ensures.front h _ c.in-Ok.ensures.done refl
           ∙ l.invariant.comes_to_the_whole;
     }
 
-pub returns : goal.returns
-returns c =
-    let l = c.loop-at in
-    run_end c.args.commands.now l.at l.done l.last _ (omega arith) ∙ l.invariant.comes_to_the_whole
+pub returns-clause-done : goal.returns-clause-done
+returns-clause-done c =
+    let l = c.loop-done in
+    let n : length c.as_chunks.result.0.now ≡ l.done = omega (arith, c.loop-done-test.false, l.auto.done-end) in
+    rw (n, c.of-2.ensures)
+    (turns_end c.args.commands.now c.as_chunks.result.0.now l.done l.last.place l.last.opened _ c.as_chunks.ensures.front
+    (sym c.as_chunks.ensures.front_len ∙ n)
+    ∙ l.invariant.comes_to_the_whole)
