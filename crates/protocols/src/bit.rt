@@ -73,7 +73,7 @@ pub(crate) fn convert(
     let Some((&[word_b, m12, word_b12], next)) = place.draw::<3>(Party::One, tape1) else {
         return Err(Shortage::TapeSpent);
     };
-    if (list2.len() < 3) | (list3.len() < 3) {
+    if !((3 <= list2.len()) & (3 <= list3.len())) {
         return Err(Shortage::ListFull);
     }
     let v = bits_at(u, j);

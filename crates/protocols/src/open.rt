@@ -25,8 +25,8 @@ pub fn open(s: Shares, place: Place, tapes: &Tapes, lists: &mut Lists) -> Result
         return Err(Shortage::ListFull);
     }
     let fresh = reshare::fresh(s, r);
-    lists.pass(0, 0, &[r]);
     list::put(lists.controller, 0, &[fresh.one, fresh.two, fresh.three]);
+    lists.pass(0, 0, &[r]);
     Ok(Done {
         shares: fresh,
         place: next,

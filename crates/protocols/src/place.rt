@@ -1,5 +1,5 @@
 // The place record, and draws from a tape.
-ghost use Rattle.std.specs.Prelude.{◌≡◌};
+ghost use Rattle.std.specs.Prelude.{◌≡◌, drop};
 ghost use Rattle.protocols.specs.Place.{count, with_count, draw};
 ghost use Rattle.protocols.specs.Lent.{drawn};
 
@@ -69,6 +69,13 @@ impl Drawn {
     }
 }
 
+// What is left of a tape after so many words.
+fn rest(tape: &[u32], used: usize) -> &[u32]
+    ensures { result.now ≡ drop used tape.now }
+{
+    tape.get(used..).unwrap_or(&[])
+}
+
 impl Place {
     // The next N words of a party's tape with the moved place, or nothing where the tape is spent.
     pub fn draw<'a, const N: usize>(
@@ -79,7 +86,7 @@ impl Place {
         ensures { drawn result ≡ draw N party tape.now self }
     {
         let at = self.drawn.of(party);
-        let Some(words) = tape.get(at..).unwrap_or(&[]).first_chunk::<N>() else {
+        let Some(words) = rest(tape, at).first_chunk::<N>() else {
             return None;
         };
         let drawn = self.drawn.with(party, at + N);

@@ -1,6 +1,6 @@
 -- Draws: one word at a time is the same as a block, and a block after a block is one block.
 use Rattle.std.specs.Prelude.{Option, Some, None}
-use Rattle.std.proofs.Common.{◌≡◌, ℕ, zero, suc, ◌+◌, ◌-◌, ◌<◌, ◌≤◌, Bool, true, false, ◌&&◌, leb, List, [], ◌++◌, length, get_or, take, drop, refl, sym, ap, ◌∙◌, append-nil, add-zero, add_assoc, arith, drop_of_length-le, length-take-le, get_or-drop, take_all, get_or-take, take-take, drop-drop, take-add, drop_at, ltb-false, ltb-true, le-leb, leb-false, leb-true}
+use Rattle.std.proofs.Common.{◌≡◌, ℕ, zero, suc, ◌+◌, ◌-◌, ◌<◌, ◌≤◌, Bool, true, false, ◌&&◌, leb, List, [], ◌++◌, length, get_or, take, drop, refl, sym, ap, ◌∙◌, append-nil, add-zero, add_assoc, arith, length-drop, drop_of_length-le, length-take-le, get_or-drop, take_all, get_or-take, take-take, drop-drop, take-add, drop_at, ltb-false, ltb-true, le-leb, leb-false, leb-true}
 use borrow.Author.Tests.{lt-leb}
 use native.Mathlib.Decide.{dec_le}
 use lib.Seq.{take-nil}
@@ -55,6 +55,12 @@ enough_true n p t h = every_true (has n p t) (λ i. le-leb (count i n) (length (
 pub enough_false : (n : Drawn) (p : Place) (t : Tapes) (i : Party) → length (tape i t) - count i p.drawn < count i n → enough n p t ≡ false
 unfolding enough
 enough_false n p t i h = every_false (has n p t) i (lt-leb (count i n) (length (tape i t) - count i p.drawn) h)
+
+-- the miners' tapes alone
+pub enough_miners : (a b c : ℕ) (p : Place) (t : Tapes)
+    → enough (counts 0 a b c) p t ≡ leb a (length t.one - p.drawn.one) && (leb b (length t.two - p.drawn.two) && leb c (length t.three - p.drawn.three))
+unfolding enough
+enough_miners a b c p t = rw leb-zero
 
 -- ---- tapes that are not drawn from
 
@@ -165,6 +171,16 @@ block-first n d l h = block-word n d 0 l h ∙ ap (λ (k : ℕ). get_or l k 0) (
 abbrev pub after : {T A : Type 0} → Option (T × Place) → (T → Place → A) → A → A
 after (Some (x, q)) k z = k x q
 after None k z = z
+
+-- a draw by what is left of the tape
+module _ (k : ℕ) (i : Party) (l : List ℕ) (p : Place) where
+  pub draw-none : length (drop (count i p.drawn) l) < k → None ≡ draw k i l p
+  unfolding draw
+  draw-none h = rw (lt-leb k (length l - count i p.drawn) (omega (arith, h, length-drop (count i p.drawn) l)))
+
+  pub draw-some : k ≤ length (drop (count i p.drawn) l) → Some (take k (drop (count i p.drawn) l), moved k i p) ≡ draw k i l p
+  unfolding draw
+  draw-some h = rw (le-leb k (length l - count i p.drawn) (omega (arith, h, length-drop (count i p.drawn) l)))
 
 -- words of one tape alone
 abbrev pub only : Party → ℕ → Drawn

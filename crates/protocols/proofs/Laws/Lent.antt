@@ -10,7 +10,7 @@ use Rattle.protocols.specs.declared.outcome.Done.{Done}
 use Rattle.protocols.specs.declared.outcome.Shortage.{Shortage}
 use Rattle.protocols.specs.Outcome.{Outcome, outcome, Delivered, finished, delivered, delivery, holds, fronts, puts}
 use Rattle.protocols.specs.Counts.{received, plus_received, due}
-use Rattle.protocols.proofs.Laws.Deliveries.{both, has_room, fronts_puts, room_true, not_spent, done_anywhere}
+use Rattle.protocols.proofs.Laws.Deliveries.{one_kept, controller_kept, both, has_room, fronts_puts, room_true, not_spent, done_anywhere}
 use Rattle.protocols.specs.Masked.{masked}
 use Rattle.protocols.specs.Bit.{bit}
 use Rattle.protocols.specs.Bits.{deal, begun, exchange, carried, round, rounds, joined, bits}
@@ -124,9 +124,26 @@ alone k t One h = refl
 alone k t Two h = absurd (omega arith)
 alone k t Three h = absurd (omega arith)
 
+bit_silent : (m j : ℕ) (u : Shares) (v : Tapes) (r : Receiver) → length (list r ((bit m j).received u v)) ≡ due r (received 0 3 3 0)
+unfolding bit
+bit_silent m j u v (miner one) = refl
+bit_silent m j u v (miner two) = refl
+bit_silent m j u v (miner three) = refl
+bit_silent m j u v controller = refl
+
 bit_of_one : (m j : ℕ) (u : Shares) (p : Place) (t : Tapes) → perform (bit m j) u p t ≡ perform (bit m j) u p (tapes [] t.one [] [])
 unfolding bit
 bit_of_one m j u p t = perform_agree (bit m j) u p t (tapes [] t.one [] []) (alone 3 t)
+
+-- what Bit leaves on miner 1's tape and lists 2 and 3 is what it leaves on all
+pub bit_whole : (m j : ℕ) (u : Shares) (p : Place) (t : Tapes) (o : Outcome) (a b c d : List ℕ) {y z : List ℕ}
+    → delivered o (lists [] y z []) ≡ delivery p (perform (bit m j) u p (tapes [] t.one [] [])) (lists [] b c [])
+    → delivered o (lists a y z d) ≡ delivery p (perform (bit m j) u p t) (lists a b c d)
+bit_whole m j u p t o a b c d {y} {z} h =
+    let h' : delivered o (lists [] y z []) ≡ delivery p (perform (bit m j) u p t) (lists [] b c []) =
+    h ∙ ap (λ (x : Answer Shares). delivery p x (lists [] b c [])) (sym (bit_of_one m j u p t)) in
+    one_kept (bit m j) u p t a b c d o (λ v. bit_silent m j u v (miner one))
+    (controller_kept (bit m j) u p t [] b c d o (λ v. bit_silent m j u v controller) h')
 
 -- ---- what is lent to the first part of a protocol
 

@@ -1,6 +1,13 @@
 -- Words that are put into a list, one after the other, and into its tail.
-use Rattle.std.proofs.Common.{◌≡◌, ℕ, suc, ◌+◌, ◌-◌, ◌<◌, ◌≤◌, List, [], ◌∷◌, ◌++◌, length, get_or, take, drop, set, sym, ap, ◌∙◌, append_assoc, append-nil, add-zero, zero-add, add-one, arith, length-append, length-drop, drop_of_length-le, length-take-le, take_all, drop-cons, drop-drop}
+use Rattle.std.proofs.Common.{◌≡◌, ℕ, suc, ◌+◌, ◌-◌, ◌<◌, ◌≤◌, List, [], ◌∷◌, ◌++◌, length, map, get_or, take, drop, set, sym, ap, ◌∙◌, append_assoc, append-nil, add-zero, zero-add, add-one, arith, length-append, length-drop, drop_of_length-le, length-take-le, take_all, drop-cons, drop-drop}
 use lib.Seq.{sets, sets-eq}
+use borrow.Rule.Slice.PartMut.{put_mid}
+use Rattle.std.proofs.lemmas.List.{map-append, length-map, take_more}
+use Rattle.protocols.specs.declared.shares.Shares.{Shares}
+use Rattle.protocols.specs.Place.{Lists, lists}
+use Rattle.protocols.specs.Counts.{received}
+use Rattle.protocols.specs.Outcome.{puts}
+use Rattle.protocols.specs.Lent.{to_next_in_order}
 
 -- ---- word by word
 
@@ -35,6 +42,36 @@ sets-append l (a ∷ s) t at =
 -- words behind the n words at the front
 pub sets_behind : (l s t : List ℕ) (n : ℕ) → n ≡ length s → sets (sets l 0 s) n t ≡ sets l 0 (s ++ t)
 sets_behind l s t n e = ap (λ (k : ℕ). sets (sets l 0 s) k t) (e ∙ sym (zero-add (length s))) ∙ sets-append l s t 0
+
+-- ---- each miner's word of shares
+
+-- the words of the first k shares, and the next one
+pub put_next : (l : List ℕ) (at k : ℕ) (w : List Shares) (z : Shares) (g : Shares → ℕ) → k < length w
+    → set (sets l at (map g (take k w))) (at + k) (g (get_or w k z)) ≡ sets l at (map g (take (k + 1) w))
+put_next l at k w z g h =
+    let n : length (map g (take k w)) ≡ k = length-map (take k w) g ∙ length-take-le k w (omega arith) in
+    ap (λ (i : ℕ). set (sets l at (map g (take k w))) (at + i) (g (get_or w k z))) (sym n)
+    ∙ sets-append l (map g (take k w)) (g (get_or w k z) ∷ []) at
+    ∙ ap (sets l at) (sym (map-append g (take k w) (get_or w k z ∷ [])) ∙ ap (map g) (sym (take_more w k z h)))
+
+-- in the lists of all miners: each one's next word to the next miner
+pub puts_next : (first at k : ℕ) (w : List Shares) (z : Shares) (l₀ l : Lists) → k < length w
+    → l ≡ puts (received first at at 0) l₀ (to_next_in_order (take k w))
+    → let x = get_or w k z in
+    lists (set l.one (first + k) x.three) (set l.two (at + k) x.one) (set l.three (at + k) x.two) l.controller
+    ≡ puts (received first at at 0) l₀ (to_next_in_order (take (k + 1) w))
+puts_next first at k w z l₀ l h e =
+    ap (λ (l : Lists). lists (set l.one (first + k) (get_or w k z).three) (set l.two (at + k) (get_or w k z).one) (set l.three (at + k) (get_or w k z).two) l.controller) e
+    ∙ (λ i. lists (put_next l₀.one first k w z (λ (x : Shares). x.three) h i) (put_next l₀.two at k w z (λ (x : Shares). x.one) h i)
+    (put_next l₀.three at k w z (λ (x : Shares). x.two) h i) l₀.controller)
+
+-- ---- a part of a list
+
+-- the words from a place on, put anew
+pub mid_sets : (l w : List ℕ) (at : ℕ) → at + length w ≤ length l → put_mid at (length w) l w ≡ sets l at w
+mid_sets l w at h =
+    ap (λ (r : List ℕ). take at l ++ (w ++ r)) (drop-drop (length w) at l)
+    ∙ sym (sets-eq w l at h ∙ append_assoc (take at l) w (drop (at + length w) l))
 
 -- ---- the tail of a list
 

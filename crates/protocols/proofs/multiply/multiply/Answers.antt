@@ -1,20 +1,26 @@
-use Rattle.std.proofs.Common.{rules, ◌≡◌, ℕ, ◌+◌, ◌-◌, ◌*◌, ◌<◌, ◌≤◌, length, ◌/◌, ◌%◌, Bool, true, false, nat_eq, nat_lt, List, [], ◌∷◌, ◌++◌, slice_index_or, slice_set, bit_and, bit_or, Fits, w8, w32, w64, Bor, MutBor}
-use Rattle.protocols.specs.Word.{modulus}
-use Rattle.protocols.specs.Shares.{operands}
-use Rattle.protocols.specs.Protocol.{perform}
-use Rattle.protocols.specs.Outcome.{outcome, delivered, delivery}
-use Rattle.protocols.specs.Lent.{tapes_of, lists_of, Same}
-use Rattle.protocols.specs.Multiply as spec
+-- `protocols::multiply::multiply` meets its contract.
+use Rattle.std.proofs.Common.{sym, ◌∙◌}
+use Rattle.protocols.specs.Multiply.{multiply}
+use Rattle.protocols.proofs.Laws.Lent.{multiply_performs}
 use Rattle.protocols.proofs.multiply.multiply.Goals as goal
 
--- src/multiply.rt:45:9
 pub returns-in_default-clause-done : goal.returns-in_default-clause-done
-returns-in_default-clause-done c = ?
+returns-in_default-clause-done c = rw (multiply_performs, sym c.draw_pairs.ensures ∙ c.in_default.is)
 
--- src/multiply.rt:48:9
 pub returns-then-not-have_room-clause-done : goal.returns-then-not-have_room-clause-done
-returns-then-not-have_room-clause-done c = ?
+unfolding multiply
+returns-then-not-have_room-clause-done c =
+    rw (multiply_performs, sym c.draw_pairs.ensures ∙ c.in-Some.is, sym c.have_room.ensures ∙ c.if-not-have_room.true)
 
--- src/multiply.rt:34:1
 pub returns-clause-done : goal.returns-clause-done
-returns-clause-done c = ?
+unfolding multiply
+returns-clause-done c =
+    rw (
+      multiply_performs,
+      sym c.draw_pairs.ensures ∙ c.in-Some.is,
+      sym c.have_room.ensures ∙ c.if-not-have_room.false,
+      c.product.ensures,
+      c.pass.ensures.passed,
+      c.fresh-x.ensures,
+      c.fresh-y.ensures,
+    )

@@ -1,20 +1,25 @@
-use Rattle.std.proofs.Common.{rules, ◌≡◌, ℕ, ◌+◌, ◌-◌, ◌*◌, ◌<◌, ◌≤◌, length, ◌/◌, ◌%◌, Bool, true, false, nat_eq, nat_lt, List, [], ◌∷◌, ◌++◌, slice_index_or, slice_set, bit_and, bit_or, Fits, w8, w32, w64, Bor, MutBor}
-use Rattle.protocols.specs.Word.{modulus}
-use Rattle.protocols.specs.Shares.{sum_of}
-use Rattle.protocols.specs.Protocol.{perform}
-use Rattle.protocols.specs.Outcome.{outcome, delivered, delivery}
-use Rattle.protocols.specs.Lent.{tapes_of, lists_of, Same}
+-- `protocols::open::open` meets its contract.
+use Rattle.std.proofs.Common.{sym, ◌∙◌}
 use Rattle.protocols.specs.Open.{opening}
+use Rattle.protocols.proofs.Laws.Lent.{opening_performs}
 use Rattle.protocols.proofs.open.open.Goals as goal
 
--- src/open.rt:22:9
 pub returns-in_default-clause-done : goal.returns-in_default-clause-done
-returns-in_default-clause-done c = ?
+returns-in_default-clause-done c = rw (opening_performs, sym c.draw_each.ensures ∙ c.in_default.is)
 
--- src/open.rt:25:9
 pub returns-then-not-have_room-clause-done : goal.returns-then-not-have_room-clause-done
-returns-then-not-have_room-clause-done c = ?
+unfolding opening
+returns-then-not-have_room-clause-done c =
+    rw (opening_performs, sym c.draw_each.ensures ∙ c.in-Some.is, sym c.have_room.ensures ∙ c.if-not-have_room.true)
 
--- src/open.rt:17:1
 pub returns-clause-done : goal.returns-clause-done
-returns-clause-done c = ?
+unfolding opening
+returns-clause-done c =
+    rw (
+      opening_performs,
+      sym c.draw_each.ensures ∙ c.in-Some.is,
+      sym c.have_room.ensures ∙ c.if-not-have_room.false,
+      c.pass.ensures.passed,
+      c.put.ensures,
+      c.fresh-fresh.ensures,
+    )

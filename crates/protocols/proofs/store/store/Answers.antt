@@ -1,19 +1,25 @@
-use Rattle.std.proofs.Common.{rules, ◌≡◌, ℕ, ◌+◌, ◌-◌, ◌*◌, ◌<◌, ◌≤◌, length, ◌/◌, ◌%◌, Bool, true, false, nat_eq, nat_lt, List, [], ◌∷◌, ◌++◌, slice_index_or, slice_set, bit_and, bit_or, Fits, w8, w32, w64, Bor, MutBor}
-use Rattle.protocols.specs.Word.{modulus}
-use Rattle.protocols.specs.Protocol.{perform}
-use Rattle.protocols.specs.Outcome.{outcome, delivered, delivery}
-use Rattle.protocols.specs.Lent.{tapes_of, lists_of, Same}
-use Rattle.protocols.specs.Store as spec
+-- `protocols::store::store` meets its contract.
+use Rattle.std.proofs.Common.{sym, ap, ◌∙◌}
+use Rattle.protocols.specs.Lent.{drawn}
+use Rattle.protocols.specs.Store.{store}
+use Rattle.protocols.proofs.Laws.Lent.{store_performs}
 use Rattle.protocols.proofs.store.store.Goals as goal
 
--- src/store.rt:21:9
 pub returns-in_default-clause-done : goal.returns-in_default-clause-done
-returns-in_default-clause-done c = ?
+returns-in_default-clause-done c = rw (store_performs, sym c.draw.ensures ∙ ap drawn c.in_default.is)
 
--- src/store.rt:24:9
 pub returns-then-not-have_room-clause-done : goal.returns-then-not-have_room-clause-done
-returns-then-not-have_room-clause-done c = ?
+unfolding store
+returns-then-not-have_room-clause-done c =
+    rw (store_performs, sym c.draw.ensures ∙ ap drawn c.in-Some.is, sym c.have_room.ensures ∙ c.if-not-have_room.true)
 
--- src/store.rt:16:1
 pub returns-clause-done : goal.returns-clause-done
-returns-clause-done c = ?
+unfolding store
+returns-clause-done c =
+    rw (
+      store_performs,
+      sym c.draw.ensures ∙ ap drawn c.in-Some.is,
+      sym c.have_room.ensures ∙ c.if-not-have_room.false,
+      c.sub-2.ensures,
+      c.sub.ensures,
+    )

@@ -1,10 +1,8 @@
-use Rattle.std.proofs.Common.{rules, ◌≡◌, ℕ, ◌+◌, ◌-◌, ◌*◌, ◌<◌, ◌≤◌, length, ◌/◌, ◌%◌, Bool, true, false, nat_eq, nat_lt, List, [], ◌∷◌, ◌++◌, slice_index_or, slice_set, bit_and, bit_or, Fits, w8, w32, w64, Bor, MutBor}
-use Rattle.protocols.specs.Place.{counts, enough}
-use Rattle.protocols.specs.Counts.{received}
-use Rattle.protocols.specs.Outcome.{holds}
-use Rattle.protocols.specs.Lent.{tapes_of, lists_of}
+-- `protocols::lent::Tapes::have` meets its contract.
+use Rattle.protocols.specs.Place.{counts}
+use Rattle.protocols.specs.Lent.{tapes_of}
+use Rattle.protocols.proofs.Laws.Draws.{enough_miners}
 use Rattle.protocols.proofs.lent.Tapes.have.Goals as goal
 
--- src/lent.rt:30:5
 pub returns : goal.returns
-returns c = ?
+returns c = rw (c.saturating_sub.ensures, c.saturating_sub-2.ensures, c.saturating_sub-3.ensures, enough_miners)

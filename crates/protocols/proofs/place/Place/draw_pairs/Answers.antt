@@ -1,16 +1,14 @@
-use Rattle.std.proofs.Common.{rules, ◌≡◌, ℕ, ◌+◌, ◌-◌, ◌*◌, ◌<◌, ◌≤◌, length, ◌/◌, ◌%◌, Bool, true, false, nat_eq, nat_lt, List, [], ◌∷◌, ◌++◌, slice_index_or, slice_set, bit_and, bit_or, Fits, w8, w32, w64, Bor, MutBor}
-use Rattle.protocols.specs.Draws.{draw_each, draw_pairs}
-use Rattle.protocols.specs.Lent.{tapes_of}
+-- `protocols::place::Place::draw_pairs` meets its contract.
+use Rattle.std.proofs.Common.{sym, ◌∙◌}
+use Rattle.protocols.proofs.Laws.Draws.{pairs_are_two}
 use Rattle.protocols.proofs.place.Place.draw_pairs.Goals as goal
 
--- src/draws.rt:32:13
 pub returns-in_default : goal.returns-in_default
-returns-in_default c = ?
+returns-in_default c = rw (← pairs_are_two, sym c.draw_each.ensures ∙ c.in_default.is)
 
--- src/draws.rt:35:13
 pub returns-in_default-draw_each : goal.returns-in_default-draw_each
-returns-in_default-draw_each c = ?
+returns-in_default-draw_each c =
+    rw (← pairs_are_two, sym c.draw_each.ensures ∙ c.in-Some.is, sym c.draw_each-2.ensures ∙ c.in_default-draw_each.is)
 
--- src/draws.rt:28:5
 pub returns : goal.returns
-returns c = ?
+returns c = rw (← pairs_are_two, sym c.draw_each.ensures ∙ c.in-Some.is, sym c.draw_each-2.ensures ∙ c.in-Some-draw_each.is)
