@@ -36,10 +36,22 @@ pub struct Held {
 }
 
 // For each round the positions that others take from.
-static SOURCES: [u32; 5] = [0x5555_5555, 0x2222_2222, 0x0808_0808, 0x0080_0080, 0x0000_8000];
+static SOURCES: [u32; 5] = [
+    0x5555_5555,
+    0x2222_2222,
+    0x0808_0808,
+    0x0080_0080,
+    0x0000_8000,
+];
 
 // For each round k the positions whose bit k is clear.
-static CLEAR: [u32; 5] = [0x5555_5555, 0x3333_3333, 0x0f0f_0f0f, 0x00ff_00ff, 0x0000_ffff];
+static CLEAR: [u32; 5] = [
+    0x5555_5555,
+    0x3333_3333,
+    0x0f0f_0f0f,
+    0x00ff_00ff,
+    0x0000_ffff,
+];
 
 // Each source's bit at every position that takes from it in round k.
 fn spread(k: u32, x: u32) -> u32

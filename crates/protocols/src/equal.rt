@@ -25,7 +25,13 @@ pub struct Folding {
 }
 
 // For each round the positions that take the 'and'.
-static HEADS: [u32; 5] = [0x5555_5555, 0x1111_1111, 0x0101_0101, 0x0001_0001, 0x0000_0001];
+static HEADS: [u32; 5] = [
+    0x5555_5555,
+    0x1111_1111,
+    0x0101_0101,
+    0x0001_0001,
+    0x0000_0001,
+];
 
 // A miner's p after round k, from its own masked share and the previous miner's.
 fn fold_share(k: u32, p: u32, x: u32) -> u32
