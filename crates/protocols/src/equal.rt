@@ -33,14 +33,24 @@ static HEADS: [u32; 5] = [
     0x0000_0001,
 ];
 
+// The other positions: a table, since taking the complement in each round is slower.
+static OTHERS: [u32; 5] = [
+    0xaaaa_aaaa,
+    0xeeee_eeee,
+    0xfefe_fefe,
+    0xfffe_fffe,
+    0xffff_fffe,
+];
+
 // A miner's p after round k, from its own masked share and the previous miner's.
 fn fold_share(k: u32, p: u32, x: u32) -> u32
     requires { k < 5 }
     ensures { result ≡ spec.fold_share (width 5) k p x }
 {
     let heads = HEADS[k as usize];
+    let others = OTHERS[k as usize];
     let stride = 1u32 << k;
-    (p & !heads) ^ masked::and_share(p, x, (p >> stride) & heads, (x >> stride) & heads)
+    (p & others) ^ masked::and_share(p, x, (p >> stride) & heads, (x >> stride) & heads)
 }
 
 // Round k on every miner's masked shares, with the masks of the next round.
