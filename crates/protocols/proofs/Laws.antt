@@ -13,6 +13,7 @@ pub mod Shared
 pub mod Carry
 pub mod Fold
 pub mod WordForm
+pub mod Rounds
 pub mod Bounds
 pub mod RingCombine
 pub mod BitsCombine

@@ -35,57 +35,47 @@ pub struct Held {
     pub base: Shares,
 }
 
-// The positions that others take from in round k.
-fn sources(k: u32) -> u32
-    requires { k < 5 }
-    ensures { result ≡ word.sources 5 k }
-{
-    match k {
-        0 => 0x5555_5555,
-        1 => 0x2222_2222,
-        2 => 0x0808_0808,
-        3 => 0x0080_0080,
-        _ => 0x0000_8000,
-    }
-}
+// For each round the positions that others take from.
+static SOURCES: [u32; 5] = [
+    0x5555_5555,
+    0x2222_2222,
+    0x0808_0808,
+    0x0080_0080,
+    0x0000_8000,
+];
 
-// The positions whose bit k is clear.
-fn clear(k: u32) -> u32
-    requires { k < 5 }
-    ensures { result ≡ word.clear 5 k }
-{
-    match k {
-        0 => 0x5555_5555,
-        1 => 0x3333_3333,
-        2 => 0x0f0f_0f0f,
-        3 => 0x00ff_00ff,
-        _ => 0x0000_ffff,
-    }
-}
+// For each round k the positions whose bit k is clear.
+static CLEAR: [u32; 5] = [
+    0x5555_5555,
+    0x3333_3333,
+    0x0f0f_0f0f,
+    0x00ff_00ff,
+    0x0000_ffff,
+];
 
 // Each source's bit at every position that takes from it in round k.
-fn spread(k: u32, sources: u32, x: u32) -> u32
-    requires { (k < 5) × (sources ≡ word.sources 5 k) }
+fn spread(k: u32, x: u32) -> u32
+    requires { k < 5 }
     ensures { result ≡ word.spread 5 k x }
 {
-    let t = x & sources;
+    let t = x & SOURCES[k as usize];
     ((t << (1u32 << k)) - t) << 1
 }
 
 // A miner's s after round k, from its own masked shares p, s and the previous miner's x, y.
-fn round_s(k: u32, sources: u32, p: u32, x: u32, s: u32, y: u32) -> u32
-    requires { (k < 5) × (sources ≡ word.sources 5 k) }
+fn round_s(k: u32, p: u32, x: u32, s: u32, y: u32) -> u32
+    requires { k < 5 }
     ensures { result ≡ spec.round_s (width 5) k p x s y }
 {
-    s ^ masked::and_share(p, x, spread(k, sources, s), spread(k, sources, y))
+    s ^ masked::and_share(p, x, spread(k, s), spread(k, y))
 }
 
 // A miner's p after round k.
-fn round_p(k: u32, sources: u32, clear: u32, p: u32, x: u32) -> u32
-    requires { (k < 5) × (sources ≡ word.sources 5 k) × (clear ≡ word.clear 5 k) }
+fn round_p(k: u32, p: u32, x: u32) -> u32
+    requires { k < 5 }
     ensures { result ≡ spec.round_p (width 5) k p x }
 {
-    (p & clear) ^ masked::and_share(p, x, spread(k, sources, p), spread(k, sources, x))
+    (p & CLEAR[k as usize]) ^ masked::and_share(p, x, spread(k, p), spread(k, x))
 }
 
 // Round k on every miner's masked shares, with the masks of the next round.
@@ -93,18 +83,16 @@ fn carried(k: u32, p: Shares, s: Shares, q: Shares, t: Shares, base: Shares) -> 
     requires { k < 5 }
     ensures { result ≡ spec.carried (width 5) k p s q t base }
 {
-    let sources = sources(k);
-    let clear = clear(k);
     Held {
         p: Shares {
-            one: round_p(k, sources, clear, p.one, p.three),
-            two: round_p(k, sources, clear, p.two, p.one),
-            three: round_p(k, sources, clear, p.three, p.two),
+            one: round_p(k, p.one, p.three),
+            two: round_p(k, p.two, p.one),
+            three: round_p(k, p.three, p.two),
         },
         s: Shares {
-            one: round_s(k, sources, p.one, p.three, s.one, s.three),
-            two: round_s(k, sources, p.two, p.one, s.two, s.one),
-            three: round_s(k, sources, p.three, p.two, s.three, s.two),
+            one: round_s(k, p.one, p.three, s.one, s.three),
+            two: round_s(k, p.two, p.one, s.two, s.one),
+            three: round_s(k, p.three, p.two, s.three, s.two),
         },
         q,
         t,

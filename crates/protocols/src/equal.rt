@@ -24,39 +24,31 @@ pub struct Folding {
     pub q: Shares,
 }
 
-// The positions that take the 'and' in round k.
-fn heads(k: u32) -> u32
-    requires { k < 5 }
-    ensures { result ≡ word.heads 5 k }
-{
-    match k {
-        0 => 0x5555_5555,
-        1 => 0x1111_1111,
-        2 => 0x0101_0101,
-        3 => 0x0001_0001,
-        _ => 0x0000_0001,
-    }
-}
+// For each round the positions that take the 'and'.
+static HEADS: [u32; 5] = [
+    0x5555_5555,
+    0x1111_1111,
+    0x0101_0101,
+    0x0001_0001,
+    0x0000_0001,
+];
 
-// The other positions of round k.
-fn others(k: u32) -> u32
-    requires { k < 5 }
-    ensures { result ≡ word.others 5 k }
-{
-    match k {
-        0 => 0xaaaa_aaaa,
-        1 => 0xeeee_eeee,
-        2 => 0xfefe_fefe,
-        3 => 0xfffe_fffe,
-        _ => 0xffff_fffe,
-    }
-}
+// The other positions: a table, since taking the complement in each round is slower.
+static OTHERS: [u32; 5] = [
+    0xaaaa_aaaa,
+    0xeeee_eeee,
+    0xfefe_fefe,
+    0xfffe_fffe,
+    0xffff_fffe,
+];
 
 // A miner's p after round k, from its own masked share and the previous miner's.
-fn fold_share(k: u32, heads: u32, others: u32, p: u32, x: u32) -> u32
-    requires { (k < 5) × (heads ≡ word.heads 5 k) × (others ≡ word.others 5 k) }
+fn fold_share(k: u32, p: u32, x: u32) -> u32
+    requires { k < 5 }
     ensures { result ≡ spec.fold_share (width 5) k p x }
 {
+    let heads = HEADS[k as usize];
+    let others = OTHERS[k as usize];
     let stride = 1u32 << k;
     (p & others) ^ masked::and_share(p, x, (p >> stride) & heads, (x >> stride) & heads)
 }
@@ -66,13 +58,11 @@ fn folded(k: u32, p: Shares, q: Shares) -> Folding
     requires { k < 5 }
     ensures { result ≡ spec.folded (width 5) k p q }
 {
-    let heads = heads(k);
-    let others = others(k);
     Folding {
         p: Shares {
-            one: fold_share(k, heads, others, p.one, p.three),
-            two: fold_share(k, heads, others, p.two, p.one),
-            three: fold_share(k, heads, others, p.three, p.two),
+            one: fold_share(k, p.one, p.three),
+            two: fold_share(k, p.two, p.one),
+            three: fold_share(k, p.three, p.two),
         },
         q,
     }

@@ -1,16 +1,15 @@
 -- Each protocol on lent tapes, by its draws and its parts.
-use Rattle.std.proofs.Common.{◌≡◌, ℕ, ◌+◌, ◌-◌, ◌*◌, ◌≤◌, Bool, true, false, leb, ltb, List, [], ◌∷◌, ◌++◌, length, get_or, take, drop, sym, refl, ap, ◌∙◌, add-zero, arith, length-append, length-drop, ltb-false, ltb-true}
-use Rattle.protocols.specs.declared.place.Party.{Party}
+use Rattle.std.proofs.Common.{◌≡◌, ℕ, ◌+◌, ◌-◌, ◌*◌, ◌≤◌, Bool, true, false, leb, List, [], ◌∷◌, ◌++◌, length, take, drop, sym, refl, ap, ◌∙◌, arith, length-append, length-drop}
 use Rattle.protocols.specs.declared.place.Party.TheVariants.{Provider, One, Two, Three}
 use Rattle.protocols.specs.declared.bits.Dealt.{Dealt}
 use Rattle.protocols.specs.declared.bits.Held.{Held}
 use Rattle.protocols.specs.declared.place.Received.{Received}
-use Rattle.std.specs.Prelude.{Result, Option, Some, None}
+use Rattle.std.specs.Prelude.{Result, Some, None}
 use Rattle.protocols.specs.declared.outcome.Done.{Done}
 use Rattle.protocols.specs.declared.outcome.Shortage.{Shortage}
 use Rattle.protocols.specs.Outcome.{Outcome, outcome, Delivered, finished, delivered, delivery, holds, fronts, puts}
 use Rattle.protocols.specs.Counts.{received, plus_received, due}
-use Rattle.protocols.proofs.Laws.Deliveries.{both, has_room, one_kept, controller_kept, fronts_puts, room_true, not_spent, done_anywhere}
+use Rattle.protocols.proofs.Laws.Deliveries.{one_kept, controller_kept, both, has_room, fronts_puts, room_true, not_spent, done_anywhere}
 use Rattle.protocols.specs.Masked.{masked}
 use Rattle.protocols.specs.Bit.{bit}
 use Rattle.protocols.specs.Bits.{deal, begun, exchange, carried, round, rounds, joined, bits}
@@ -25,14 +24,14 @@ use Rattle.protocols.specs.declared.place.Place.{Place}
 use Rattle.protocols.specs.declared.shares.Shares.{Shares}
 use Rattle.protocols.specs.Word.{width, modulus}
 use Rattle.protocols.specs.Shares.{one, two, three, Operands}
-use Rattle.protocols.specs.Place.{Tapes, tapes, tape, Lists, lists, Receiver, miner, controller, list, advance, count, counts, plus, moved, tape_number, draw_case, draw, enough, block, ◌followed_by◌, to_next, to_two_three}
+use Rattle.protocols.specs.Place.{Tapes, tapes, Lists, lists, Receiver, miner, controller, list, advance, counts, plus, draw, enough, block, ◌followed_by◌, to_next, to_two_three}
 use Rattle.protocols.specs.Draws.{draw_each, draw_pairs}
 use Rattle.protocols.specs.Protocol.{Protocol, ◌then◌, locally, Answer, done, spent, perform}
 use Rattle.protocols.specs.Store.{store}
 use Rattle.protocols.specs.Reshare.{reshare}
 use Rattle.protocols.specs.Multiply.{multiply}
 use Rattle.protocols.specs.Open.{opening}
-use Rattle.protocols.proofs.Laws.Draws.{after, enough_true, enough_false, Agree, enough_agree, enough-plus, block_agree, block-first}
+use Rattle.protocols.proofs.Laws.Draws.{after, Agree, enough-plus}
 use Rattle.protocols.proofs.Laws.Perform.{by_each, by_pairs, by_words, and_then, preceded, perform_then, perform-locally, perform_agree, then_spent, then_done, locally_then, followed_by_silence, Performed, rounds-spent, round-done, round-spent, performs, is_spent}
 
 -- ---- the ring protocols

@@ -1,10 +1,18 @@
 -- `protocols::bits::round_p` meets its contract.
-use Rattle.protocols.specs.WordForm.{word_p}
+use Rattle.std.proofs.Common.{◌≡◌, ℕ, ◌<◌, [], ◌∷◌, slice_index_or, refl}
+use Rattle.protocols.specs.Word.{of_bits, bit_at}
+use Rattle.protocols.specs.WordForm.{clear, word_p}
+use Rattle.protocols.proofs.Laws.Rounds.{each_round}
 use Rattle.protocols.proofs.Laws.WordForm.{word_forms}
 use Rattle.protocols.proofs.bits.round_p.Goals as goal
+
+-- the table lists the positions whose bit k is clear
+listed : (k : ℕ) → k < 5 → slice_index_or (1431655765 ∷ 858993459 ∷ 252645135 ∷ 16711935 ∷ 65535 ∷ []) k 0 ≡ clear 5 k
+unfolding clear of_bits bit_at
+listed = each_round _ refl refl refl refl refl
 
 pub returns : goal.returns
 unfolding word_p
 returns c =
-    rw (c.requires.2, c.and_share.ensures, c.spread.ensures, c.spread-2.ensures)
-    ((word_forms 5 c.args.k c.requires.0).form_p c.args.p c.args.x)
+    rw (listed c.args.k c.requires, c.and_share.ensures, c.spread.ensures, c.spread-2.ensures)
+    ((word_forms 5 c.args.k c.requires).form_p c.args.p c.args.x)

@@ -1,17 +1,31 @@
 -- `protocols::equal::fold_share` meets its contract.
+use Rattle.std.proofs.Common.{◌≡◌, ℕ, ◌<◌, [], ◌∷◌, slice_index_or, refl}
 use lib.Pow.{pow-lt}
-use Rattle.protocols.specs.WordForm.{word_fold}
+use Rattle.protocols.specs.Word.{of_bits}
+use Rattle.protocols.specs.WordForm.{heads, others, word_fold}
+use Rattle.protocols.proofs.Laws.Rounds.{each_round}
 use Rattle.protocols.proofs.Laws.WordForm.{stride, word_forms}
 use Rattle.protocols.proofs.equal.fold_share.Goals as goal
 
+-- the tables list the heads and the other positions
+heads_listed : (k : ℕ) → k < 5 → slice_index_or (1431655765 ∷ 286331153 ∷ 16843009 ∷ 65537 ∷ 1 ∷ []) k 0 ≡ heads 5 k
+unfolding heads of_bits
+heads_listed = each_round _ refl refl refl refl refl
+
+others_listed : (k : ℕ) → k < 5
+    → slice_index_or (2863311530 ∷ 4008636142 ∷ 4278124286 ∷ 4294901758 ∷ 4294967294 ∷ []) k 0 ≡ others 5 k
+unfolding others of_bits
+others_listed = each_round _ refl refl refl refl refl
+
 pub overflow_shr-p : goal.overflow_shr-p
-overflow_shr-p c = rw (stride c.args.k c.requires.0) (pow-lt c.requires.0)
+overflow_shr-p c = rw (stride c.args.k c.requires) (pow-lt c.requires)
 
 pub overflow_shr-x : goal.overflow_shr-x
-overflow_shr-x c = rw (stride c.args.k c.requires.0) (pow-lt c.requires.0)
+overflow_shr-x c = rw (stride c.args.k c.requires) (pow-lt c.requires)
 
 pub returns : goal.returns
 unfolding word_fold
 returns c =
-    rw (c.and_share.ensures, stride c.args.k c.requires.0, c.requires.1, c.requires.2)
-    ((word_forms 5 c.args.k c.requires.0).form_fold c.args.p c.args.x)
+    let k = c.args.k in
+    let h = c.requires in
+    rw (c.and_share.ensures, stride k h, others_listed k h, heads_listed k h) ((word_forms 5 k h).form_fold c.args.p c.args.x)
