@@ -12,10 +12,11 @@ use Rattle.machine.specs.declared.answer.Answer.{Answer}
 use Rattle.machine.specs.declared.code.Code.{Code}
 use Rattle.machine.specs.declared.code.Code.TheVariants.{Store, Add, Subtract, AddConstant, TimesConstant, Multiply, Reshare, Bits, Bit, Equal, Open, Below}
 use Rattle.machine.specs.declared.given.Given.{Given}
+use Rattle.machine.specs.declared.kind.Kind.{Kind}
 use Rattle.machine.specs.declared.play.Alone.{Alone}
 use Rattle.machine.specs.declared.play.Alone.TheVariants.{Made, Joint}
 use Rattle.machine.specs.declared.row.Row.{Row}
-use Rattle.machine.specs.Table.{row}
+use Rattle.machine.specs.Table.{kind_number, row}
 use Rattle.machine.specs.Lent.{Tables, Lent}
 use Rattle.machine.specs.Steps.{both}
 use Rattle.machine.specs.Command.{answer, opened, put, with_shares}
@@ -75,8 +76,8 @@ pub record Stored : Type 0 where
 abbrev pub stored : Tables → List ℕ → Stored
 stored t k = record { tables = t; kinds = k }
 
-unfoldable pub append : ℕ → ℕ → Shares → ℕ → Tables → List ℕ → Stored
-append values at s kind t kinds = stored (with_shares values t at s) (put values kinds at kind)
+unfoldable pub append : ℕ → ℕ → Shares → Kind → Tables → List ℕ → Stored
+append values at s kind t kinds = stored (with_shares values t at s) (put values kinds at (kind_number kind))
 
 -- an answer, with the tables and kinds after it
 pub record Left : Type 0 where

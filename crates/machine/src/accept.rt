@@ -12,6 +12,7 @@ ghost use Rattle.machine.specs.Accept as spec;
 use super::answer::Answer;
 use super::code::{Code, Command};
 use super::given::Given;
+use super::kind::Kind;
 use super::play::Alone;
 use super::row::Row;
 use super::{entry, play, row};
@@ -62,10 +63,19 @@ fn store_value(
     kinds: &mut [u32],
 ) -> Answer
     requires { place.handles + 1 < 2 ^ 64 }
-    ensures { left result (stored (tables share1.new share2.new share3.new) kinds.new) ≡ left (answer 0 (one_more place) 0) (append 1 place.handles shares 1 (tables share1.old share2.old share3.old) kinds.old) }
+    ensures { left result (stored (tables share1.new share2.new share3.new) kinds.new) ≡ left (answer 0 (one_more place) 0) (append 1 place.handles shares Kind.RingValue (tables share1.old share2.old share3.old) kinds.old) }
 {
     let at = place.handles;
-    entry::store_entry(1, at, shares, 1, share1, share2, share3, kinds);
+    entry::store_entry(
+        1,
+        at,
+        shares,
+        Kind::RingValue,
+        share1,
+        share2,
+        share3,
+        kinds,
+    );
     let mut moved = place;
     moved.handles = at + 1;
     Answer {

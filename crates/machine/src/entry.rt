@@ -3,6 +3,7 @@ ghost use Rattle.std.specs.Prelude.{◌≡◌, set};
 ghost use Rattle.machine.specs.Lent.{tables};
 ghost use Rattle.machine.specs.Accept.{stored, append};
 
+use super::kind::Kind;
 use protocols::shares::Shares;
 
 fn write(list: &mut [u32], i: usize, word: u32)
@@ -18,7 +19,7 @@ pub(crate) fn store_entry(
     values: usize,
     at: usize,
     s: Shares,
-    kind: u32,
+    kind: Kind,
     share1: &mut [u32],
     share2: &mut [u32],
     share3: &mut [u32],
@@ -32,5 +33,5 @@ pub(crate) fn store_entry(
     write(share1, at, s.one);
     write(share2, at, s.two);
     write(share3, at, s.three);
-    write(kinds, at, kind);
+    write(kinds, at, u32::from(kind));
 }

@@ -8,5 +8,5 @@ returns-then-values-eq0 c = rw c.if-values-eq0.true (sym (append_none c.args.at 
 
 pub returns : goal.returns
 returns c =
-    stored_same c.write.ensures c.write-2.ensures c.write-3.ensures c.write-4.ensures
+    stored_same c.write.ensures c.write-2.ensures c.write-3.ensures (rw c.from.ensures at c.write-4.ensures)
     ∙ sym (append_some c.args.values c.args.at c.args.s c.args.kind _ _ c.if-values-eq0.false)
