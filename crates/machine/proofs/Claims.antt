@@ -16,6 +16,8 @@ use Rattle.machine.proofs.Laws.Steps.{never_spent}
 -- by computation
 table_at_32 : TableAt32
 table_at_32 = record {
+  ring_value = refl;
+  bit_word = refl;
   store = (refl, refl);
   add = (refl, refl);
   subtract = (refl, refl);

@@ -12,8 +12,9 @@ use Rattle.machine.specs.declared.answer.Answer.{Answer}
 use Rattle.machine.specs.declared.code.Code.{Code}
 use Rattle.machine.specs.declared.code.Code.TheVariants.{Store, Add, Subtract, AddConstant, TimesConstant, Multiply, Reshare, Bits, Bit, Equal, Open, Below}
 use Rattle.machine.specs.declared.given.Given.{Given}
+use Rattle.machine.specs.declared.kind.Kind.{Kind}
 use Rattle.machine.specs.declared.row.Row.{Row}
-use Rattle.machine.specs.Table.{row}
+use Rattle.machine.specs.Table.{kind_number, row}
 use Rattle.machine.specs.declared.lent.Tables as code_tables
 use Rattle.machine.specs.Lent.{Tables, tables_of, Lent}
 use Rattle.machine.specs.Steps.{both}
@@ -77,8 +78,8 @@ stored t k = record { tables = t; kinds = k }
 abbrev pub stored_of : code_tables.Tables → Stored
 stored_of t = stored (tables_of t) t.kinds.now
 
-unfoldable pub append : ℕ → ℕ → Shares → ℕ → Tables → List ℕ → Stored
-append values at s kind t kinds = stored (with_shares values t at s) (put values kinds at kind)
+unfoldable pub append : ℕ → ℕ → Shares → Kind → Tables → List ℕ → Stored
+append values at s kind t kinds = stored (with_shares values t at s) (put values kinds at (kind_number kind))
 
 -- an answer, with the tables and kinds after it
 pub record Left : Type 0 where

@@ -14,10 +14,11 @@ use Rattle.protocols.specs.Worked.{Worked}
 use Rattle.machine.specs.declared.code.Command.{Command}
 use Rattle.machine.specs.declared.code.Code.{Code}
 use Rattle.machine.specs.declared.code.Code.TheVariants.{Store, Add, Subtract, AddConstant, TimesConstant, Multiply, Reshare, Bits, Bit, Equal, Open, Below}
+use Rattle.machine.specs.declared.kind.Kind.TheVariants.{RingValue, BitWord}
 use Rattle.machine.specs.declared.row.Row.{Row}
 use Rattle.machine.specs.declared.row.Use.TheVariants.{Unused, Handle, Word, Position}
 use Rattle.machine.specs.declared.lent.Sizes.{Sizes}
-use Rattle.machine.specs.Table.{find, line, row}
+use Rattle.machine.specs.Table.{find, kind_number, line, row}
 use Rattle.machine.specs.Lent.{Tables, Lent, lent, table, lengths, sizes, entry, shares_at, Filled, received_words, AreWords}
 use Rattle.machine.specs.Verdict.{Accepted, number, verdict}
 use Rattle.machine.specs.Steps.{protocol}
@@ -37,18 +38,21 @@ Line number x r = (find number ≡ Ok x) × (row 5 x ≡ r)
 -- number and command; use of a and b; kinds of operands and new value; new values; inputs; received by miners 1, 2, 3 and controller;
 -- drawn by provider and miners 1, 2, 3
 pub record TableAt32 : Type 0 where
-  pub store : Line 1 Store (line Unused Unused 1 1 1 1 (received 1 1 1 0) (counts 2 0 0 0))
-  pub add : Line 2 Add (line Handle Handle 1 1 1 0 (received 0 0 0 0) (counts 0 0 0 0))
-  pub subtract : Line 3 Subtract (line Handle Handle 1 1 1 0 (received 0 0 0 0) (counts 0 0 0 0))
-  pub add_constant : Line 4 AddConstant (line Handle Word 1 1 1 0 (received 0 0 0 0) (counts 0 0 0 0))
-  pub times_constant : Line 5 TimesConstant (line Handle Word 1 1 1 0 (received 0 0 0 0) (counts 0 0 0 0))
-  pub multiply : Line 6 Multiply (line Handle Handle 1 1 1 0 (received 4 4 4 0) (counts 0 2 2 2))
-  pub reshare : Line 7 Reshare (line Handle Unused 1 1 1 0 (received 1 1 1 0) (counts 0 1 1 1))
-  pub bits : Line 8 Bits (line Handle Unused 1 2 1 0 (received 22 25 25 0) (counts 0 15 12 12))
-  pub bit : Line 9 Bit (line Handle Position 2 1 1 0 (received 0 3 3 0) (counts 0 3 0 0))
-  pub equal : Line 10 Equal (line Handle Handle 1 1 1 0 (received 11 15 15 0) (counts 0 10 6 6))
-  pub opening : Line 11 Open (line Handle Unused 1 1 0 0 (received 1 1 1 3) (counts 0 1 1 1))
-  pub below : Line 12 Below (line Handle Handle 1 1 1 0 (received 22 28 28 0) (counts 0 18 12 12))
+  -- 'Kind 1 is a ring value', 'Kind 2 is a bit word'
+  pub ring_value : kind_number RingValue ≡ 1
+  pub bit_word : kind_number BitWord ≡ 2
+  pub store : Line 1 Store (line Unused Unused RingValue RingValue 1 1 (received 1 1 1 0) (counts 2 0 0 0))
+  pub add : Line 2 Add (line Handle Handle RingValue RingValue 1 0 (received 0 0 0 0) (counts 0 0 0 0))
+  pub subtract : Line 3 Subtract (line Handle Handle RingValue RingValue 1 0 (received 0 0 0 0) (counts 0 0 0 0))
+  pub add_constant : Line 4 AddConstant (line Handle Word RingValue RingValue 1 0 (received 0 0 0 0) (counts 0 0 0 0))
+  pub times_constant : Line 5 TimesConstant (line Handle Word RingValue RingValue 1 0 (received 0 0 0 0) (counts 0 0 0 0))
+  pub multiply : Line 6 Multiply (line Handle Handle RingValue RingValue 1 0 (received 4 4 4 0) (counts 0 2 2 2))
+  pub reshare : Line 7 Reshare (line Handle Unused RingValue RingValue 1 0 (received 1 1 1 0) (counts 0 1 1 1))
+  pub bits : Line 8 Bits (line Handle Unused RingValue BitWord 1 0 (received 22 25 25 0) (counts 0 15 12 12))
+  pub bit : Line 9 Bit (line Handle Position BitWord RingValue 1 0 (received 0 3 3 0) (counts 0 3 0 0))
+  pub equal : Line 10 Equal (line Handle Handle RingValue RingValue 1 0 (received 11 15 15 0) (counts 0 10 6 6))
+  pub opening : Line 11 Open (line Handle Unused RingValue RingValue 0 0 (received 1 1 1 3) (counts 0 1 1 1))
+  pub below : Line 12 Below (line Handle Handle RingValue RingValue 1 0 (received 22 28 28 0) (counts 0 18 12 12))
 
 -- ---- parts of a statement
 

@@ -14,7 +14,7 @@ use Rattle.machine.specs.declared.answer.Accepted as code
 use Rattle.machine.specs.declared.answer.Answer.{Answer}
 use Rattle.machine.specs.declared.refusal.Refusal.{Refusal}
 use Rattle.machine.specs.Refusal.{number}
-use Rattle.machine.specs.Table.{row, opens, moved}
+use Rattle.machine.specs.Table.{kind_number, row, opens, moved}
 use Rattle.machine.specs.Lent.{Tables, tables, Lent, lent, sizes, shares_at}
 use Rattle.machine.specs.Verdict.{Verdict, Accepted, Refused, verdict}
 use Rattle.machine.specs.Steps.{protocol}
@@ -61,7 +61,7 @@ with_words l p w =
 
 abbrev pub written : Row → Place → Shares → Lists → Lent → Lent
 written x p s w l =
-    lent (with_shares x.values l.tables p.handles s) (put x.values l.kinds p.handles x.kind) l.inputs l.tapes
+    lent (with_shares x.values l.tables p.handles s) (put x.values l.kinds p.handles (kind_number x.kind)) l.inputs l.tapes
     (with_words l.received p w)
 
 -- ---- the command

@@ -13,7 +13,7 @@ use Rattle.machine.specs.declared.code.Code.TheVariants.{Store}
 use Rattle.machine.specs.declared.row.Use.{Use}
 use Rattle.machine.specs.declared.row.Use.TheVariants.{Unused, Handle, Position}
 use Rattle.machine.specs.declared.row.Row.{Row}
-use Rattle.machine.specs.Table.{find, row}
+use Rattle.machine.specs.Table.{find, kind_number, row}
 use Rattle.machine.specs.Lent.{Lent, table, entry, Filled}
 
 -- the ten counts of a place record, with the list that each counts in
@@ -63,7 +63,7 @@ pub data Applies (n : ℕ) (c : Command) (p : Place) (l : Lent) : ℕ → Type 0
   not_filled : (x : Code) → find c.code ≡ Ok x → (f : Field) → use_of f (row n x) ≡ Handle → ¬ Filled p (field f c) → Applies n c p l 7
   -- 8: 'a filled handle of the wrong kind'
   wrong_kind : (x : Code) → find c.code ≡ Ok x → (f : Field) → use_of f (row n x) ≡ Handle → Filled p (field f c)
-      → ¬ (entry l.kinds (field f c) ≡ (row n x).operands) → Applies n c p l 8
+      → ¬ (entry l.kinds (field f c) ≡ kind_number (row n x).operands) → Applies n c p l 8
   -- 9: 'bit position over 31'
   over_position : (x : Code) → find c.code ≡ Ok x → (f : Field) → use_of f (row n x) ≡ Position → width n - 1 < field f c → Applies n c p l 9
   -- 10: 'a new value is due and the share tables are full'

@@ -6,7 +6,7 @@ use Rattle.machine.specs.declared.code.Command.{Command}
 use Rattle.machine.specs.declared.code.Code.{Code}
 use Rattle.machine.specs.declared.code.Code.TheVariants.{Store, Add, Subtract, AddConstant, TimesConstant, Multiply, Reshare, Bits, Bit, Equal, Open, Below}
 use Rattle.machine.specs.declared.lent.Sizes.{Sizes}
-use Rattle.machine.specs.Table.{row, opens, moved}
+use Rattle.machine.specs.Table.{kind_number, row, opens, moved}
 use Rattle.machine.specs.Verdict.{Verdict, Accepted, Refused, number, verdict}
 
 -- 'registers (word, kind)'
@@ -58,7 +58,7 @@ judge n c z m = verdict n c m.place z (map (λ r. r.kind) m.held)
 abbrev pub after : ℕ → Verdict → Command → List ℕ → Registers → Registers
 after n (Accepted x) c inputs m =
     let w = value n x (named m.held c.a).word (named m.held c.b).word c.b (get_or inputs m.place.inputs 0) in
-    registers (grown (row n x).values m.held (register w (row n x).kind)) (moved m.place (row n x))
+    registers (grown (row n x).values m.held (register w (kind_number (row n x).kind))) (moved m.place (row n x))
 after n (Refused r) c inputs m = m
 
 unfoldable pub step : ℕ → Command → Sizes → List ℕ → Registers → Registers

@@ -1,5 +1,5 @@
 -- The table of commands, over words of 2 ^ n bits. (01, 'The commands')
-use Rattle.std.specs.Prelude.{ℕ, ◌+◌, ◌*◌, Bool, cond, List, get_or, nat_lt, nat_eq, Result, Ok, Err}
+use Rattle.std.specs.Prelude.{ℕ, ◌+◌, ◌*◌, Bool, cond, nat_lt, nat_eq, Result, Ok, Err}
 use Rattle.protocols.specs.declared.place.Drawn.{Drawn}
 use Rattle.protocols.specs.declared.place.Place.{Place}
 use Rattle.protocols.specs.declared.place.Received.{Received}
@@ -10,6 +10,8 @@ use Rattle.machine.specs.declared.code.Code.{Code}
 use Rattle.machine.specs.declared.code.Code.TheVariants.{Store, Add, Subtract, AddConstant, TimesConstant, Multiply, Reshare, Bits, Bit, Equal, Open, Below}
 use Rattle.machine.specs.declared.refusal.Refusal.{Refusal}
 use Rattle.machine.specs.declared.refusal.Refusal.TheVariants.{UnknownCode}
+use Rattle.machine.specs.declared.kind.Kind.{Kind}
+use Rattle.machine.specs.declared.kind.Kind.TheVariants.{RingValue, BitWord}
 use Rattle.machine.specs.declared.row.Use.{Use}
 use Rattle.machine.specs.declared.row.Use.TheVariants.{Unused, Handle, Word, Position}
 use Rattle.machine.specs.declared.row.Row.{Row}
@@ -25,33 +27,31 @@ find x =
     (cond (nat_eq x 5) (Ok TimesConstant) (cond (nat_eq x 6) (Ok Multiply) (cond (nat_eq x 7) (Ok Reshare) (cond (nat_eq x 8) (Ok Bits)
     (cond (nat_eq x 9) (Ok Bit) (cond (nat_eq x 10) (Ok Equal) (cond (nat_eq x 11) (Ok Open) (cond (nat_eq x 12) (Ok Below) (Err UnknownCode))))))))))))
 
+-- 'Kind 1 is a ring value, whose three shares add up to it. Kind 2 is a bit word, whose shares give it by exclusive or.'
+abbrev pub kind_number : Kind → ℕ
+kind_number RingValue = 1
+kind_number BitWord = 2
+
 -- a line: use of a and b, the operands' kind, the new value's kind, new values, inputs, words received by miners 1 to 3 and the
 -- controller, words drawn by the provider and miners 1 to 3
-abbrev pub line : Use → Use → ℕ → ℕ → ℕ → ℕ → Received → Drawn → Row
+abbrev pub line : Use → Use → Kind → Kind → ℕ → ℕ → Received → Drawn → Row
 line a b operands kind values inputs k d =
     record { a = a; b = b; operands = operands; kind = kind; values = values; inputs = inputs; received = k; drawn = d }
 
--- four counts, as the code has them
-abbrev pub received_of : List ℕ → Received
-received_of l = received (get_or l 0 0) (get_or l 1 0) (get_or l 2 0) (get_or l 3 0)
-
-abbrev pub drawn_of : List ℕ → Drawn
-drawn_of l = counts (get_or l 0 0) (get_or l 1 0) (get_or l 2 0) (get_or l 3 0)
-
 -- 'Operands are of kind 1 but the one in code 9; new values are of kind 1 but code 8's'; open makes no new value
 abbrev pub row : ℕ → Code → Row
-row n Store = line Unused Unused 1 1 1 1 (received 1 1 1 0) (counts 2 0 0 0)
-row n Add = line Handle Handle 1 1 1 0 (received 0 0 0 0) (counts 0 0 0 0)
-row n Subtract = line Handle Handle 1 1 1 0 (received 0 0 0 0) (counts 0 0 0 0)
-row n AddConstant = line Handle Word 1 1 1 0 (received 0 0 0 0) (counts 0 0 0 0)
-row n TimesConstant = line Handle Word 1 1 1 0 (received 0 0 0 0) (counts 0 0 0 0)
-row n Multiply = line Handle Handle 1 1 1 0 (received 4 4 4 0) (counts 0 2 2 2)
-row n Reshare = line Handle Unused 1 1 1 0 (received 1 1 1 0) (counts 0 1 1 1)
-row n Bits = line Handle Unused 1 2 1 0 (received (2 + 4 * n) (5 + 4 * n) (5 + 4 * n) 0) (counts 0 (5 + 2 * n) (2 + 2 * n) (2 + 2 * n))
-row n Bit = line Handle Position 2 1 1 0 (received 0 3 3 0) (counts 0 3 0 0)
-row n Equal = line Handle Handle 1 1 1 0 (received (1 + 2 * n) (5 + 2 * n) (5 + 2 * n) 0) (counts 0 (5 + n) (1 + n) (1 + n))
-row n Open = line Handle Unused 1 1 0 0 (received 1 1 1 3) (counts 0 1 1 1)
-row n Below = line Handle Handle 1 1 1 0 (received (2 + 4 * n) (8 + 4 * n) (8 + 4 * n) 0) (counts 0 (8 + 2 * n) (2 + 2 * n) (2 + 2 * n))
+row n Store = line Unused Unused RingValue RingValue 1 1 (received 1 1 1 0) (counts 2 0 0 0)
+row n Add = line Handle Handle RingValue RingValue 1 0 (received 0 0 0 0) (counts 0 0 0 0)
+row n Subtract = line Handle Handle RingValue RingValue 1 0 (received 0 0 0 0) (counts 0 0 0 0)
+row n AddConstant = line Handle Word RingValue RingValue 1 0 (received 0 0 0 0) (counts 0 0 0 0)
+row n TimesConstant = line Handle Word RingValue RingValue 1 0 (received 0 0 0 0) (counts 0 0 0 0)
+row n Multiply = line Handle Handle RingValue RingValue 1 0 (received 4 4 4 0) (counts 0 2 2 2)
+row n Reshare = line Handle Unused RingValue RingValue 1 0 (received 1 1 1 0) (counts 0 1 1 1)
+row n Bits = line Handle Unused RingValue BitWord 1 0 (received (2 + 4 * n) (5 + 4 * n) (5 + 4 * n) 0) (counts 0 (5 + 2 * n) (2 + 2 * n) (2 + 2 * n))
+row n Bit = line Handle Position BitWord RingValue 1 0 (received 0 3 3 0) (counts 0 3 0 0)
+row n Equal = line Handle Handle RingValue RingValue 1 0 (received (1 + 2 * n) (5 + 2 * n) (5 + 2 * n) 0) (counts 0 (5 + n) (1 + n) (1 + n))
+row n Open = line Handle Unused RingValue RingValue 0 0 (received 1 1 1 3) (counts 0 1 1 1)
+row n Below = line Handle Handle RingValue RingValue 1 0 (received (2 + 4 * n) (8 + 4 * n) (8 + 4 * n) 0) (counts 0 (8 + 2 * n) (2 + 2 * n) (2 + 2 * n))
 
 -- an open is the one command with words for the controller
 abbrev pub opens : Row → Bool

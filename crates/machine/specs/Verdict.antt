@@ -15,7 +15,7 @@ use Rattle.machine.specs.declared.row.Use.TheVariants.{Unused, Handle, Word, Pos
 use Rattle.machine.specs.declared.row.Row.{Row}
 use Rattle.machine.specs.declared.lent.Sizes.{Sizes}
 use Rattle.machine.specs.Refusal as table
-use Rattle.machine.specs.Table.{find, row}
+use Rattle.machine.specs.Table.{find, kind_number, row}
 use Rattle.machine.specs.Lent.{entry}
 
 -- accepted, with the command; or turned down, with the number
@@ -88,7 +88,7 @@ handles_filled x p c = meets x.a true (filled p c.a) true && meets x.b true (fil
 -- 8: 'a filled handle of the wrong kind'
 abbrev pub kinds_fit : Row → List ℕ → Command → Bool
 kinds_fit x kinds c =
-    meets x.a true (nat_eq (entry kinds c.a) x.operands) true && meets x.b true (nat_eq (entry kinds c.b) x.operands) true
+    meets x.a true (nat_eq (entry kinds c.a) (kind_number x.operands)) true && meets x.b true (nat_eq (entry kinds c.b) (kind_number x.operands)) true
 
 -- 9: 'bit position over 31'
 abbrev pub in_word : ℕ → Row → Command → Bool

@@ -17,6 +17,7 @@ ghost use Rattle.machine.specs.Accept as spec;
 use super::answer::Accepted;
 use super::code::{Code, Command};
 use super::given::Given;
+use super::kind::Kind;
 use super::lent::Tables;
 use super::refusal::Refusal;
 use super::row::Row;
@@ -63,10 +64,10 @@ fn counted(p: Place, x: Row) -> Place
 fn store_value(shares: Shares, place: Place, tables: &mut Tables) -> Accepted
     requires { place.handles + 1 < 2 ^ 64 }
     ensures same { SameTables tables.old tables.new }
-    ensures left { left (answer_of place (Ok result)) (stored_of tables.new) ≡ left (answer 0 (one_more place) 0) (append 1 place.handles shares 1 (tables_of tables.old) tables.old.kinds.now) }
+    ensures left { left (answer_of place (Ok result)) (stored_of tables.new) ≡ left (answer 0 (one_more place) 0) (append 1 place.handles shares Kind.RingValue (tables_of tables.old) tables.old.kinds.now) }
 {
     let at = place.handles;
-    tables.store(1, at, shares, 1);
+    tables.store(1, at, shares, Kind::RingValue);
     Accepted {
         place: Place {
             handles: at + 1,

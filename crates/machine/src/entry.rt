@@ -3,6 +3,7 @@ ghost use Rattle.std.specs.Prelude.{◌≡◌, set};
 ghost use Rattle.machine.specs.Lent.{tables_of, SameTables};
 ghost use Rattle.machine.specs.Accept.{stored_of, append};
 
+use super::kind::Kind;
 use super::lent::Tables;
 use protocols::shares::Shares;
 
@@ -16,7 +17,7 @@ fn write(list: &mut [u32], i: usize, word: u32)
 
 impl Tables<'_> {
     // In every table at the same place, where a value is due.
-    pub(crate) fn store(&mut self, values: usize, at: usize, s: Shares, kind: u32)
+    pub(crate) fn store(&mut self, values: usize, at: usize, s: Shares, kind: Kind)
         ensures same { SameTables self.old self.new }
         ensures stored { stored_of self.new ≡ append values at s kind (tables_of self.old) self.old.kinds.now }
     {
@@ -26,6 +27,6 @@ impl Tables<'_> {
         write(self.one, at, s.one);
         write(self.two, at, s.two);
         write(self.three, at, s.three);
-        write(self.kinds, at, kind);
+        write(self.kinds, at, u32::from(kind));
     }
 }

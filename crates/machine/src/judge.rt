@@ -5,12 +5,13 @@ ghost use Rattle.protocols.specs.Word.{modulus, sub};
 ghost use Rattle.protocols.specs.Place.{count, every};
 ghost use Rattle.protocols.specs.Counts.{due};
 ghost use Rattle.machine.specs.Refusal.{number_of};
-ghost use Rattle.machine.specs.Table.{row};
+ghost use Rattle.machine.specs.Table.{kind_number, row};
 ghost use Rattle.machine.specs.Lent.{entry};
 ghost use Rattle.machine.specs.Verdict.{same_length, within, is_kind, are_kinds, every_list, sound, check};
 ghost use Rattle.machine.specs.Verdict as spec;
 
 use super::code::{Code, Command};
+use super::kind::Kind;
 use super::lent::Sizes;
 use super::refusal::Refusal;
 use protocols::place::{Drawn, Place, Received};
@@ -80,14 +81,14 @@ fn filled(p: Place, h: u32) -> bool
 }
 
 // One handle.
-fn operand(h: u32, kind: u32, p: Place, kinds: &[u32]) -> Result<(), Refusal>
+fn operand(h: u32, kind: Kind, p: Place, kinds: &[u32]) -> Result<(), Refusal>
     requires { p.handles ≤ length kinds.now }
-    ensures { number_of result ≡ check 7 (spec.filled p h) (check 8 (nat_eq (entry kinds.now h) kind) 0) }
+    ensures { number_of result ≡ check 7 (spec.filled p h) (check 8 (nat_eq (entry kinds.now h) (kind_number kind)) 0) }
 {
     if !filled(p, h) {
         return Err(Refusal::HandleNotFilled);
     }
-    if kinds[h as usize - 1] != kind {
+    if kinds[h as usize - 1] != u32::from(kind) {
         return Err(Refusal::WrongKind);
     }
     Ok(())
@@ -101,9 +102,10 @@ fn pair(c: Command, p: Place, kinds: &[u32]) -> Result<(), Refusal>
     if !(filled(p, c.a) & filled(p, c.b)) {
         return Err(Refusal::HandleNotFilled);
     }
+    let ring = u32::from(Kind::RingValue);
     let kind_a = kinds[c.a as usize - 1];
     let kind_b = kinds[c.b as usize - 1];
-    if !((kind_a == 1) & (kind_b == 1)) {
+    if !((kind_a == ring) & (kind_b == ring)) {
         return Err(Refusal::WrongKind);
     }
     Ok(())
@@ -117,7 +119,7 @@ fn single(c: Command, p: Place, kinds: &[u32]) -> Result<(), Refusal>
     if c.b != 0 {
         return Err(Refusal::FieldNotZero);
     }
-    operand(c.a, 1, p, kinds)
+    operand(c.a, Kind::RingValue, p, kinds)
 }
 
 // One handle of a bit word, and a position in it.
@@ -125,7 +127,7 @@ fn position(c: Command, p: Place, kinds: &[u32]) -> Result<(), Refusal>
     requires { p.handles ≤ length kinds.now }
     ensures { number_of result ≡ check 7 (spec.filled p c.a) (check 8 (nat_eq (entry kinds.now c.a) 2) (check 9 (nat_lt c.b 32) 0)) }
 {
-    operand(c.a, 2, p, kinds)?;
+    operand(c.a, Kind::BitWord, p, kinds)?;
     if 32 <= c.b {
         return Err(Refusal::PositionOutside);
     }
@@ -152,7 +154,7 @@ fn fields(code: Code, c: Command, p: Place, kinds: &[u32]) -> Result<(), Refusal
         Code::Add | Code::Subtract | Code::Multiply | Code::Equal | Code::Below => {
             pair(c, p, kinds)
         }
-        Code::AddConstant | Code::TimesConstant => operand(c.a, 1, p, kinds),
+        Code::AddConstant | Code::TimesConstant => operand(c.a, Kind::RingValue, p, kinds),
         Code::Reshare | Code::Bits | Code::Open => single(c, p, kinds),
         Code::Bit => position(c, p, kinds),
     }

@@ -8,6 +8,7 @@ pub mod command;
 mod entry;
 pub mod given;
 pub mod judge;
+pub mod kind;
 pub mod lent;
 pub mod play;
 pub mod refusal;

@@ -23,8 +23,10 @@ use Rattle.machine.specs.declared.code.Code.TheVariants.{Store, Add, Subtract, A
 use Rattle.machine.specs.declared.code.Command.{Command}
 use Rattle.machine.specs.declared.given.Given.{Given}
 use Rattle.machine.specs.declared.lent.Sizes.{Sizes}
+use Rattle.machine.specs.declared.kind.Kind.{Kind}
+use Rattle.machine.specs.declared.kind.Kind.TheVariants.{RingValue}
 use Rattle.machine.specs.declared.row.Row.{Row}
-use Rattle.machine.specs.Table.{row, moved}
+use Rattle.machine.specs.Table.{kind_number, row, moved}
 use Rattle.machine.specs.Lent.{Tables, tables, Lent, lent, sizes}
 use Rattle.machine.specs.Verdict.{Verdict, Accepted, supplied}
 use Rattle.machine.specs.Steps.{protocol}
@@ -39,12 +41,12 @@ use Rattle.machine.proofs.Laws.Supplied.{Told, lacking, having, f, g, drawn, sup
 pub stored_same : {a b c k a' b' c' k' : List ℕ} → a ≡ a' → b ≡ b' → c ≡ c' → k ≡ k' → stored (tables a b c) k ≡ stored (tables a' b' c') k'
 stored_same e f g h = λ i. stored (tables (e i) (f i) (g i)) (h i)
 
-pub append_none : (at : ℕ) (s : Shares) (kind : ℕ) (t : Tables) (kinds : List ℕ) → append 0 at s kind t kinds ≡ stored t kinds
+pub append_none : (at : ℕ) (s : Shares) (kind : Kind) (t : Tables) (kinds : List ℕ) → append 0 at s kind t kinds ≡ stored t kinds
 unfolding append
 append_none at s kind t kinds = refl
 
-pub append_some : (v at : ℕ) (s : Shares) (kind : ℕ) (t : Tables) (kinds : List ℕ) → ¬ (v ≡ 0)
-    → append v at s kind t kinds ≡ stored (tables (set t.one at s.one) (set t.two at s.two) (set t.three at s.three)) (set kinds at kind)
+pub append_some : (v at : ℕ) (s : Shares) (kind : Kind) (t : Tables) (kinds : List ℕ) → ¬ (v ≡ 0)
+    → append v at s kind t kinds ≡ stored (tables (set t.one at s.one) (set t.two at s.two) (set t.three at s.three)) (set kinds at (kind_number kind))
 unfolding append
 append_some zero at s kind t kinds h = absurd (h refl)
 append_some (suc v) at s kind t kinds h = refl
@@ -187,7 +189,7 @@ one_value p = λ i. record {
 module _ (c : Command) (p : Place) (l : Lent) where
   -- with the shares s as the new handle's
   abbrev with_value : Shares → Done
-  with_value s = let e = append 1 p.handles s 1 l.tables l.kinds in outcome (answer 0 (one_more p) 0) (lent e.tables e.kinds l.inputs l.tapes l.received)
+  with_value s = let e = append 1 p.handles s RingValue l.tables l.kinds in outcome (answer 0 (one_more p) 0) (lent e.tables e.kinds l.inputs l.tapes l.received)
 
   abbrev is_left : Code → Done
   is_left x = decided 5 (supplied (row 5 x) p (sizes l) (Accepted x)) c p l
@@ -229,7 +231,7 @@ module _ (c : Command) (p : Place) (l : Lent) where
       due Below e = refl
 
   pub alone-left : (x : Code) {q : Given} {s : Shares} {a : Answer} {e : Stored} → q ≡ given l.tables l.inputs p c → alone x c.b q ≡ Some s
-      → left a e ≡ left (answer 0 (one_more p) 0) (append 1 p.handles s 1 l.tables l.kinds)
+      → left a e ≡ left (answer 0 (one_more p) 0) (append 1 p.handles s RingValue l.tables l.kinds)
       → outcome a (lent e.tables e.kinds l.inputs l.tapes l.received) ≡ is_left x
   alone-left x eq em ee =
       (λ i. outcome (ee i).answer (lent (ee i).stored.tables (ee i).stored.kinds l.inputs l.tapes l.received))

@@ -26,7 +26,7 @@ use Rattle.machine.specs.declared.row.Use.{Use}
 use Rattle.machine.specs.declared.row.Use.TheVariants.{Unused, Handle, Word, Position}
 use Rattle.machine.specs.declared.given.Given.{Given}
 use Rattle.machine.specs.declared.code.Command.{Command}
-use Rattle.machine.specs.Table.{find, row, opens, moved}
+use Rattle.machine.specs.Table.{find, kind_number, row, opens, moved}
 use Rattle.machine.specs.Lent.{table, Lent, lent, tape_lengths, sizes, entry, shares_at, Filled, AreWords}
 use Rattle.machine.specs.Verdict.{Verdict, Accepted, Refused, number, meets, filled, verdict}
 use Rattle.machine.specs.Steps.{protocol}
@@ -152,7 +152,7 @@ module _ (n : ℕ) (c : Command) (p : Place) (l : Lent) (x : Code) where
           one = length-put v t.one p.handles makes.one i;
           two = length-put v t.two p.handles makes.two i;
           three = length-put v t.three p.handles makes.three i;
-          kinds = length-put v l.kinds p.handles (row n x).kind i;
+          kinds = length-put v l.kinds p.handles (kind_number (row n x).kind) i;
           inputs = length l.inputs;
           tapes = tape_lengths l.tapes;
           received = received (length-sets r.one p.received.one sends.one i) (length-sets r.two p.received.two sends.two i)
@@ -208,15 +208,15 @@ module _ (n : ℕ) (c : Command) (p : Place) (l : Lent) (x : Code) where
       }
 
       -- the new shares give the register machine's value
-      new_word : combined (modulus n) (row n x).kind (makes b)
+      new_word : combined (modulus n) (kind_number (row n x).kind) (makes b)
           ≡ value n x (named (start n p l).held c.a).word (named (start n p l).held c.b).word c.b (get_or l.inputs p.inputs 0)
       new_word =
           let y = row n x in
           let k = l.kinds in
-          let g = both (meets y.a true (eqb (entry k c.a) y.operands) true) (meets y.b true (eqb (entry k c.b) y.operands) true) a.eight in
+          let g = both (meets y.a true (eqb (entry k c.a) (kind_number y.operands)) true) (meets y.b true (eqb (entry k c.b) (kind_number y.operands)) true) a.eight in
           steps_combine n x c.b takes b given_are_words h
-          ∙ value_same n x _ _ _ _ c.b (get_or l.inputs p.inputs 0) (operand_word n p l y.a c.a y.operands filled_fields.0 g.0)
-          (operand_word n p l y.b c.b y.operands filled_fields.1 g.1)
+          ∙ value_same n x _ _ _ _ c.b (get_or l.inputs p.inputs 0) (operand_word n p l y.a c.a (kind_number y.operands) filled_fields.0 g.0)
+          (operand_word n p l y.b c.b (kind_number y.operands) filled_fields.1 g.1)
 
       -- the registers that the shares stand for are those of the register machine after the command
       pub start_left : start n (moved p (row n x)) (leaves b) ≡ after n (Accepted x) c l.inputs (start n p l)
@@ -225,9 +225,9 @@ module _ (n : ℕ) (c : Command) (p : Place) (l : Lent) (x : Code) where
         where
           held : up_to (p.handles + (row n x).values) (register_of n (leaves b)) ≡ (after n (Accepted x) c l.inputs (start n p l)).held
           held =
-              registers_grow n l p.handles (makes b) (row n x).kind (leaves b).received (row n x).values (values_at_most_1 n x)
+              registers_grow n l p.handles (makes b) (kind_number (row n x).kind) (leaves b).received (row n x).values (values_at_most_1 n x)
               (λ i. omega (arith, fits a, same a i)) (fits a)
-              ∙ ap (λ (u : ℕ). grown (row n x).values (start n p l).held (register u (row n x).kind)) new_word
+              ∙ ap (λ (u : ℕ). grown (row n x).values (start n p l).held (register u (kind_number (row n x).kind))) new_word
 
 -- ---- a command, accepted or refused
 
@@ -273,7 +273,7 @@ module _ (n : ℕ) (c : Command) (p : Place) (l : Lent) where
     kept_by (Accepted x) e = record {
       tables_kept = λ i k h. ap (λ (t : List ℕ). get_or t k 0) (table-left n c p l x (draws n c p l x) i)
           ∙ get_or-put (row n x).values (table i l.tables) p.handles (at i (makes n c p l x (draws n c p l x))) k h;
-      kinds_kept = get_or-put (row n x).values l.kinds p.handles (row n x).kind;
+      kinds_kept = get_or-put (row n x).values l.kinds p.handles (kind_number (row n x).kind);
       inputs_kept = refl;
       tapes_kept = refl;
       sizes_kept = sizes-left n c p l x (draws n c p l x);

@@ -19,7 +19,7 @@ use Rattle.machine.specs.declared.row.Use.TheVariants.{Unused, Handle, Word, Pos
 use Rattle.machine.specs.declared.row.Row.{Row}
 use Rattle.machine.specs.declared.lent.Sizes.{Sizes}
 use Rattle.machine.specs.declared.code.Command.{Command}
-use Rattle.machine.specs.Table.{find, row}
+use Rattle.machine.specs.Table.{find, kind_number, row}
 use Rattle.machine.specs.Lent.{table, Lent, sizes, entry, Filled}
 use Rattle.machine.specs.Verdict.{Verdict, Accepted, test, check, told, same_length, within, are_kinds, meets, filled, unused_zero, handles_filled, kinds_fit, in_word, tables_have, inputs_have, supplied, judged, looked_up, verdict}
 use Rattle.machine.specs.Registers.{judge}
@@ -57,7 +57,7 @@ module _ (n : ℕ) (c : Command) (p : Place) (z : Sizes) (kinds : List ℕ) wher
   kinds_fit_lem : (x : Row) → handles_filled x p c ≡ true → kinds_fit x (take p.handles kinds) c ≡ kinds_fit x kinds c
   kinds_fit_lem x e =
       let t = both (meets x.a true (filled p c.a) true) (meets x.b true (filled p c.b) true) e in
-      ap₂ ◌&&◌ (field_fits x.a c.a x.operands t.0) (field_fits x.b c.b x.operands t.1)
+      ap₂ ◌&&◌ (field_fits x.a c.a (kind_number x.operands) t.0) (field_fits x.b c.b (kind_number x.operands) t.1)
 
   looked_up-taken : (y : Result Code Refusal) → looked_up n y c p z (take p.handles kinds) ≡ looked_up n y c p z kinds
   unfolding judged

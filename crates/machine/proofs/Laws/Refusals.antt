@@ -17,7 +17,7 @@ use Rattle.machine.specs.declared.code.Code.{Code}
 use Rattle.machine.specs.declared.refusal.Refusal.{Refusal}
 use Rattle.machine.specs.declared.row.Use.TheVariants.{Unused, Handle, Position}
 use Rattle.machine.specs.declared.code.Command.{Command}
-use Rattle.machine.specs.Table.{find, row}
+use Rattle.machine.specs.Table.{find, kind_number, row}
 use Rattle.machine.specs.Lent.{Lent, sizes, table, entry, Filled}
 use Rattle.machine.specs.Verdict.{Verdict, Accepted, Refused, number, test, check, told, same_length, within, sound, unused_zero, handles_filled, kinds_fit, in_word, tables_have, inputs_have, tapes_have, lists_have, supplied, judged, looked_up, verdict}
 use Rattle.machine.specs.Command.{answer, outcome, accepted, decided, command}
@@ -151,10 +151,10 @@ module _ (n : ℕ) (c : Command) (p : Place) (l : Lent) where
 
     -- where 7 does not apply, each used handle is filled
     test_8 : ¬ Applies n c p l 7 → Decides (Applies n c p l 8) (kinds_fit (row n x) l.kinds c)
-    test_8 seven = same_as to from (some_field (λ f. if_handle (use_of f (row n x)) (by_eq (entry l.kinds (field f c)) (row n x).operands)))
+    test_8 seven = same_as to from (some_field (λ f. if_handle (use_of f (row n x)) (by_eq (entry l.kinds (field f c)) (kind_number (row n x).operands))))
       where
         Line : Code → Type 0
-        Line y = (f : Field) × ((use_of f (row n y) ≡ Handle) × (¬ (entry l.kinds (field f c) ≡ (row n y).operands)))
+        Line y = (f : Field) × ((use_of f (row n y) ≡ Handle) × (¬ (entry l.kinds (field f c) ≡ kind_number (row n y).operands)))
 
         to : Line x → Applies n c p l 8
         to s = wrong_kind x e s.0 s.1.0 (stable_filled p (field s.0 c) (λ h. seven (not_filled x e s.0 s.1.0 h))) s.1.1

@@ -14,9 +14,10 @@ use Rattle.protocols.specs.Place.{count, miner, controller}
 use Rattle.protocols.specs.Counts.{due}
 use Rattle.machine.specs.declared.code.Command.{Command}
 use Rattle.machine.specs.declared.code.Code.{Code}
-use Rattle.machine.specs.declared.code.Code.TheVariants.{Store, Add, Subtract, AddConstant, TimesConstant, Multiply, Reshare, Bits, Bit, Equal, Open, Below}
+use Rattle.machine.specs.declared.kind.Kind.{Kind}
+use Rattle.machine.specs.declared.kind.Kind.TheVariants.{RingValue, BitWord}
 use Rattle.machine.specs.declared.lent.Sizes.{Sizes}
-use Rattle.machine.specs.Table.{row}
+use Rattle.machine.specs.Table.{kind_number, row}
 use Rattle.machine.specs.Lent.{Lent, sizes, table, entry, Filled}
 use Rattle.machine.specs.Verdict.{Verdict, Accepted, Refused, verdict, sound}
 use Rattle.machine.specs.Command.{put, command}
@@ -58,19 +59,9 @@ list_size (received r) l = sym (due-list_lengths r l.received)
 
 -- ---- a new value has a kind
 
-row-kind : (n : ℕ) (x : Code) → ¬ NoKind (row n x).kind
-row-kind n Store h = h.0 refl
-row-kind n Add h = h.0 refl
-row-kind n Subtract h = h.0 refl
-row-kind n AddConstant h = h.0 refl
-row-kind n TimesConstant h = h.0 refl
-row-kind n Multiply h = h.0 refl
-row-kind n Reshare h = h.0 refl
-row-kind n Bits h = h.1 refl
-row-kind n Bit h = h.0 refl
-row-kind n Equal h = h.0 refl
-row-kind n Open h = h.0 refl
-row-kind n Below h = h.0 refl
+has_number : (k : Kind) → ¬ NoKind (kind_number k)
+has_number RingValue h = h.0 refl
+has_number BitWord h = h.1 refl
 
 -- a handle with no kind, after a value of the kind w is written behind k handles, had none before
 had_none : (v : ℕ) (l : List ℕ) (k w h : ℕ) → v ≤ 1 → k + v ≤ length l → ¬ NoKind w → 1 ≤ h → h ≤ k + v → NoKind (entry (put v l k w) h)
@@ -109,8 +100,8 @@ module _ (n : ℕ) (c : Command) (p : Place) (l : Lent) where
   kind-before (Accepted x) e h f g =
       let a = all_passed n x c p (sizes l) l.kinds e in
       let same = same-lengths l (both _ _ a.four).0 one in
-      let t = had_none (row n x).values l.kinds p.handles (row n x).kind h (values_at_most_1 n x) (omega (arith, (has_room a).handles, same))
-      (row-kind n x) f.0 f.1 g in
+      let t = had_none (row n x).values l.kinds p.handles (kind_number (row n x).kind) h (values_at_most_1 n x) (omega (arith, (has_room a).handles, same))
+      (has_number (row n x).kind) f.0 f.1 g in
       no_kind h (f.0, t.0) t.1.0 t.1.1
   kind-before (Refused r) e h f g = no_kind h f g.0 g.1
 

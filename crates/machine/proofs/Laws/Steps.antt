@@ -26,7 +26,7 @@ use Rattle.machine.specs.declared.row.Use.{Use}
 use Rattle.machine.specs.declared.row.Use.TheVariants.{Unused, Handle, Word, Position}
 use Rattle.machine.specs.declared.given.Given.{Given}
 use Rattle.machine.specs.declared.code.Command.{Command}
-use Rattle.machine.specs.Table.{row}
+use Rattle.machine.specs.Table.{kind_number, row}
 use Rattle.machine.specs.Lent.{Lent, tape_lengths, sizes}
 use Rattle.machine.specs.Steps.{both, protocol}
 use Rattle.machine.specs.Command.{given}
@@ -86,8 +86,8 @@ bitwise n = claims.combine.1 n
 
 -- the new shares combine to the register machine's value, from what the operands' shares combine to
 pub steps_combine : (n : ℕ) (x : Code) (b : ℕ) (g : Given) (t : Tapes) → GivenAreWords n x g → Contents (modulus n) (protocol n x b).draws t
-    → combined (modulus n) (row n x).kind ((protocol n x b).result g t)
-    ≡ value n x (combined (modulus n) (row n x).operands g.u) (combined (modulus n) (row n x).operands g.v) b g.input
+    → combined (modulus n) (kind_number (row n x).kind) ((protocol n x b).result g t)
+    ≡ value n x (combined (modulus n) (kind_number (row n x).operands) g.u) (combined (modulus n) (kind_number (row n x).operands) g.v) b g.input
 unfolding protocol
 steps_combine n Store b g t h c = (ring n).store_combines g.input h.0 t
 steps_combine n Add b g t h c = (ring n).sum_combines (both g)

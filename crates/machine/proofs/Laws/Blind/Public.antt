@@ -7,7 +7,7 @@ use lib.Dec.{eqb}
 use Rattle.protocols.specs.declared.place.Place.{Place}
 use Rattle.machine.specs.declared.code.Command.{Command}
 use Rattle.machine.specs.declared.lent.Sizes.{Sizes}
-use Rattle.machine.specs.Table.{row, moved}
+use Rattle.machine.specs.Table.{kind_number, row, moved}
 use Rattle.machine.specs.Lent.{Lent, sizes}
 use Rattle.machine.specs.Verdict.{Verdict, Accepted, Refused, number, verdict}
 use Rattle.machine.specs.Command.{Outcome, put, accepted, decided, command}
@@ -20,7 +20,7 @@ place_after n (Accepted x) p = moved p (row n x)
 place_after n (Refused r) p = p
 
 abbrev pub kinds_after : ℕ → Verdict → Place → List ℕ → List ℕ
-kinds_after n (Accepted x) p k = put (row n x).values k p.handles (row n x).kind
+kinds_after n (Accepted x) p k = put (row n x).values k p.handles (kind_number (row n x).kind)
 kinds_after n (Refused r) p k = k
 
 -- the place record after a run, and the replies

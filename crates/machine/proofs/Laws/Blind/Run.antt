@@ -17,7 +17,7 @@ use Rattle.machine.specs.declared.code.Command.{Command}
 use Rattle.machine.specs.declared.code.Code.{Code}
 use Rattle.machine.specs.declared.code.Code.TheVariants.{Open}
 use Rattle.machine.specs.declared.lent.Sizes.{Sizes}
-use Rattle.machine.specs.Table.{row, opens, moved}
+use Rattle.machine.specs.Table.{kind_number, row, opens, moved}
 use Rattle.machine.specs.Lent.{Tables, Lent, table, sizes, entry, shares_at, AreWords}
 use Rattle.machine.specs.Verdict.{Verdict, Accepted, Refused, verdict}
 use Rattle.machine.specs.Steps.{protocol}
@@ -169,7 +169,7 @@ module _ (n : ℕ) (o : Observer) (c : Command) (cs : List Command) (p : Place) 
   step-held (Accepted x) e l h b hb = record {
     words = words_left n c p l x h.words (passed x e l h) b hb;
     sized = sizes-left n c p l x b ∙ h.sized;
-    kinds = ap (λ (j : List ℕ). put (row n x).values j p.handles (row n x).kind) h.kinds;
+    kinds = ap (λ (j : List ℕ). put (row n x).values j p.handles (kind_number (row n x).kind)) h.kinds;
   }
   step-held (Refused r) e l h b hb = h
 

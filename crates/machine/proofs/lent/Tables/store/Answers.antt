@@ -8,4 +8,4 @@ returns-then-values-eq0-clause-stored c = rw c.if-values-eq0.true (sym (append_n
 
 pub returns-clause-stored : goal.returns-clause-stored
 returns-clause-stored c =
-    stored_same c.write.ensures c.write-2.ensures c.write-3.ensures c.write-4.ensures ∙ sym (append_some _ _ _ _ _ _ c.if-values-eq0.false)
+    stored_same c.write.ensures c.write-2.ensures c.write-3.ensures (rw c.from.ensures at c.write-4.ensures) ∙ sym (append_some _ _ _ _ _ _ c.if-values-eq0.false)
