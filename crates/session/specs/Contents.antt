@@ -29,9 +29,9 @@ limits = 384 ∷ 128 ∷ 256 ∷ 2304 ∷ 2304 ∷ 2304 ∷ []
 -- each count is at most its limit
 unfoldable pub within : List ℕ → List ℕ → Bool
 within [] pairs = true
-within (most ∷ limits) [] = false
-within (most ∷ limits) (start ∷ []) = false
-within (most ∷ limits) (start ∷ count ∷ rest) = nat_le count most && within limits rest
+within (most ∷ others) [] = false
+within (most ∷ others) (start ∷ []) = false
+within (most ∷ others) (start ∷ count ∷ rest) = nat_le count most && within others rest
 
 -- ---- the six lists of a sheet
 

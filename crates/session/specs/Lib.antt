@@ -3,5 +3,6 @@ pub mod Words
 pub mod Contents
 pub mod Session
 pub mod Text
+pub mod Writing
 pub mod Refusals
 pub mod Claims

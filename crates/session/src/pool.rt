@@ -8,7 +8,9 @@ ghost use Rattle.session.specs.Text.{is_early, text_from, Readable, rendered, in
 ghost use Rattle.session.specs.Text as spec;
 
 use super::answer::SessionAnswer;
-use super::{session, text};
+use super::session;
+use super::text::Text;
+use machine::refusal::Refusal;
 
 // The longest legal file.
 pub const BYTES: usize = 30768;
@@ -22,18 +24,15 @@ fn report(answer: SessionAnswer, words: &[u32], shares: &[u32], out: &mut [u8; T
     ensures { (out.new ≡ sets out.old 0 (text_from answer words.now shares.now)) × (result ≡ length (text_from answer words.now shares.now)) × (result ≤ length out.new) }
 {
     let number = answer.number;
+    let mut text = Text::new(out);
     if (0 < number) & (number <= 4) {
-        return text::put_refused(out, 0, number);
+        text.put_refused(number);
+        return text.len();
     }
-    let place = answer.place;
-    let received = place.received;
     let end = 12 + 3 * answer.done;
-    let at = text::put_opens(out, &words[12..end], &shares[..received.controller]);
-    if number == 0 {
-        text::put_end(out, at, answer)
-    } else {
-        text::put_stopped(out, at, number, answer.done)
-    }
+    text.put_opens(&words[12..end], &shares[..answer.place.received.controller]);
+    text.put_last(answer);
+    text.len()
 }
 
 // Runs the session of a file and puts what is to be printed at the front of `out`; answers the text's length.
@@ -54,7 +53,9 @@ pub fn pool(
     ensures within { (result ≤ length out.new) × (result ≡ length (take result out.new)) }
 {
     if BYTES < file.len() {
-        return text::put_refused(out, 0, 3);
+        let mut text = Text::new(out);
+        text.put_refused(u32::from(Refusal::OverLimit));
+        return text.len();
     }
     let answer = session::session(
         file, words, share1, share2, share3, kinds, received1, received2, received3, controller,

@@ -1,128 +1,147 @@
-// The lines of text, put into a lent buffer. Each function answers the place after what it put.
-ghost use Rattle.std.specs.Prelude.{◌≡◌, ◌+◌, ◌*◌, ◌^◌, ◌≤◌, ◌<◌, [], ◌∷◌, length, drop, get_or};
-ghost use Rattle.std.proofs.lemmas.List.Edits.{sets};
+// The lines of text, put at the front of a lent buffer.
+ghost use Rattle.std.specs.Prelude.{◌≡◌, ◌+◌, ◌*◌, ◌≤◌, [], ◌∷◌, length, slice_index};
 ghost use Rattle.protocols.specs.Word.{modulus};
+ghost use Rattle.protocols.specs.Shares.{shares, sum_of};
 ghost use Rattle.machine.specs.Run.{commands_of, sums_in_threes};
-ghost use Rattle.session.specs.Text.{digits, spaced, open_line, end_line, stopped_line, refused_line, lines_with};
+ghost use Rattle.session.specs.Text.{spaced, end_line, stopped_line, last_line, refused_line, lines_with};
+ghost use Rattle.session.specs.Text as spec;
+ghost use Rattle.session.specs.Writing.{Adds};
 
 use super::answer::SessionAnswer;
 use protocols::open;
 use protocols::shares::Shares;
 
-fn put_text(out: &mut [u8], at: usize, text: &[u8]) -> usize
-    requires { at + length text.now ≤ length out.old }
-    ensures { (out.new ≡ sets out.old at text.now) × (result ≡ at + length text.now) }
-{
-    let mut i: usize = 0;
-    while i < text.len() {
-        out[at + i] = text[i];
-        i += 1;
+// The code of the command that opens a value.
+const OPEN: u32 = 11;
+
+// The text so far, at the front of a lent buffer.
+#[derive(Drop)]
+pub(crate) struct Text<'a> {
+    out: &'a mut [u8],
+    len: usize,
+}
+
+impl<'a> Text<'a> {
+    pub(crate) fn new(out: &'a mut [u8]) -> Text<'a>
+        ensures same_reference { result.out.ghost_name ≡ out.entry.ghost_name }
+        ensures empty { (result.out.now ≡ out.old) × (result.len ≡ 0) }
+    {
+        Text { out, len: 0 }
     }
-    at + i
-}
 
-// The decimal digits of n, where so many places hold it.
-fn put_digits(out: &mut [u8], at: usize, n: u64, places: usize) -> usize
-    requires { at + places ≤ length out.old }
-    ensures { (out.new ≡ sets out.old at (digits places n)) × (result ≡ at + length (digits places n)) }
-{
-    if places == 0 {
-        return at;
+    pub(crate) fn len(&self) -> usize
+        ensures { result ≡ self.now.len }
+    {
+        self.len
     }
-    if n < 10 {
-        out[at] = (48 + n) as u8;
-        return at + 1;
+
+    fn put_bytes(&mut self, bytes: &[u8])
+        requires { self.old.len + length bytes.now ≤ length self.old.out.now }
+        ensures { Adds self.old bytes.now self.new }
+    {
+        let end = self.len + bytes.len();
+        self.out[self.len..end].copy_from_slice(bytes);
+        self.len = end;
     }
-    let last = put_digits(out, at, n / 10, places - 1);
-    out[last] = (48 + n % 10) as u8;
-    last + 1
-}
 
-// A space and a number.
-fn put_number(out: &mut [u8], at: usize, n: u64) -> usize
-    requires { at + 21 ≤ length out.old }
-    ensures { (out.new ≡ sets out.old at (spaced (n ∷ []))) × (result ≡ at + length (spaced (n ∷ []))) }
-{
-    out[at] = b' ';
-    put_digits(out, at + 1, n, 20)
-}
-
-fn put_open(out: &mut [u8], at: usize, handle: u32, word: u32) -> usize
-    requires { at + 47 ≤ length out.old }
-    ensures { (out.new ≡ sets out.old at (open_line handle word)) × (result ≡ at + length (open_line handle word)) }
-{
-    let named = put_text(out, at, b"open");
-    let first = put_number(out, named, handle as u64);
-    let second = put_number(out, first, word as u64);
-    put_text(out, second, b"\n")
-}
-
-pub(crate) fn put_end(out: &mut [u8], at: usize, answer: SessionAnswer) -> usize
-    requires { at + 109 ≤ length out.old }
-    ensures { (out.new ≡ sets out.old at (end_line answer)) × (result ≡ at + length (end_line answer)) }
-{
-    let place = answer.place;
-    let received = place.received;
-    let named = put_text(out, at, b"end");
-    let done = put_number(out, named, answer.done as u64);
-    let one = put_number(out, done, received.one as u64);
-    let two = put_number(out, one, received.two as u64);
-    let three = put_number(out, two, received.three as u64);
-    let controller = put_number(out, three, received.controller as u64);
-    put_text(out, controller, b"\n")
-}
-
-pub(crate) fn put_stopped(out: &mut [u8], at: usize, number: u32, command: usize) -> usize
-    requires { at + 53 ≤ length out.old }
-    ensures { (out.new ≡ sets out.old at (stopped_line number command)) × (result ≡ at + length (stopped_line number command)) }
-{
-    let named = put_text(out, at, b"refused");
-    let numbered = put_number(out, named, number as u64);
-    let joined = put_text(out, numbered, b" at");
-    let last = put_number(out, joined, command as u64);
-    put_text(out, last, b"\n")
-}
-
-pub(crate) fn put_refused(out: &mut [u8], at: usize, number: u32) -> usize
-    requires { at + 29 ≤ length out.old }
-    ensures { (out.new ≡ sets out.old at (refused_line number)) × (result ≡ at + length (refused_line number)) }
-{
-    let named = put_text(out, at, b"refused");
-    let numbered = put_number(out, named, number as u64);
-    put_text(out, numbered, b"\n")
-}
-
-// The word that the three shares from a place on add up to; 0 where fewer are left.
-fn sum_from(shares: &[u32], at: usize) -> u32
-    requires { at + 2 < 2 ^ 64 }
-    ensures { result ≡ get_or (sums_in_threes (modulus 5) (drop at shares.now)) 0 0 }
-{
-    if shares.len() <= at + 2 {
-        return 0;
+    // A space and a number.
+    fn put_number(&mut self, n: u64)
+        requires { self.old.len + 21 ≤ length self.old.out.now }
+        ensures { Adds self.old (spaced (n ∷ [])) self.new }
+    {
+        let mut digits = itoa::Buffer::new();
+        self.put_bytes(b" ");
+        self.put_bytes(digits.format(n).as_bytes());
     }
-    open::total(Shares {
-        one: shares[at],
-        two: shares[at + 1],
-        three: shares[at + 2],
-    })
-}
 
-// A line for each open among accepted commands; the shares are the controller's, three for each.
-pub(crate) fn put_opens(out: &mut [u8], commands: &[u32], shares: &[u32]) -> usize
-    requires { 47 * length commands.now ≤ 3 * length out.old }
-    ensures { (out.new ≡ sets out.old 0 (lines_with (commands_of commands.now) (sums_in_threes (modulus 5) shares.now))) × (result ≡ length (lines_with (commands_of commands.now) (sums_in_threes (modulus 5) shares.now))) × (3 * result ≤ 47 * length commands.now) }
-{
-    let mut at: usize = 0;
-    let mut i: usize = 0;
-    let mut j: usize = 0;
-    while i + 2 < commands.len() {
-        let code = commands[i];
-        let handle = commands[i + 1];
-        i += 3;
-        if code == 11 {
-            at = put_open(out, at, handle, sum_from(shares, j));
-            j += 3;
+    fn put_numbers(&mut self, numbers: &[u64])
+        requires { self.old.len + 21 * length numbers.now ≤ length self.old.out.now }
+        ensures added { Adds self.old (spaced numbers.now) self.new }
+        ensures short { self.new.len ≤ self.old.len + 21 * length numbers.now }
+    {
+        for n in numbers {
+            self.put_number(*n);
         }
     }
-    at
+
+    // A word, its numbers and the end of the line.
+    fn put_line(&mut self, name: &[u8], numbers: &[u64])
+        requires { self.old.len + (length name.now + 21 * length numbers.now + 1) ≤ length self.old.out.now }
+        ensures added { Adds self.old (spec.line name.now numbers.now) self.new }
+        ensures short { self.new.len ≤ self.old.len + (length name.now + 21 * length numbers.now + 1) }
+    {
+        self.put_bytes(name);
+        self.put_numbers(numbers);
+        self.put_bytes(b"\n");
+    }
+
+    // A line for each open among accepted commands; the shares are the controller's, three for each.
+    pub(crate) fn put_opens(&mut self, commands: &[u32], shares: &[u32])
+        requires { 3 * self.old.len + 47 * length commands.now ≤ 3 * length self.old.out.now }
+        ensures added { Adds self.old (lines_with (commands_of commands.now) (sums_in_threes (modulus 5) shares.now)) self.new }
+        ensures short { 3 * self.new.len ≤ 3 * self.old.len + 47 * length commands.now }
+    {
+        let (commands, _) = commands.as_chunks::<3>();
+        let (shares, _) = shares.as_chunks::<3>();
+        let mut opened = shares.iter();
+        for [code, handle, _] in commands {
+            if *code == OPEN {
+                let word = opened.next().map_or(0, sum);
+                self.put_line(b"open", &[u64::from(*handle), u64::from(word)]);
+            }
+        }
+    }
+
+    // What ends the text: all commands were done, or one was refused.
+    pub(crate) fn put_last(&mut self, answer: SessionAnswer)
+        requires { self.old.len + 109 ≤ length self.old.out.now }
+        ensures { Adds self.old (last_line answer) self.new }
+    {
+        if answer.number == 0 {
+            self.put_end(answer);
+        } else {
+            self.put_stopped(answer.number, answer.done);
+        }
+    }
+
+    #[tactic(auto, unfolding(crate::specs::Text::end_line))]
+    fn put_end(&mut self, answer: SessionAnswer)
+        requires { self.old.len + 109 ≤ length self.old.out.now }
+        ensures { Adds self.old (end_line answer) self.new }
+    {
+        let received = answer.place.received;
+        let numbers = [
+            answer.done as u64,
+            received.one as u64,
+            received.two as u64,
+            received.three as u64,
+            received.controller as u64,
+        ];
+        self.put_line(b"end", &numbers);
+    }
+
+    fn put_stopped(&mut self, number: u32, command: usize)
+        requires { self.old.len + 53 ≤ length self.old.out.now }
+        ensures { Adds self.old (stopped_line number command) self.new }
+    {
+        self.put_bytes(b"refused");
+        self.put_numbers(&[u64::from(number)]);
+        self.put_line(b" at", &[command as u64]);
+    }
+
+    #[tactic(auto, unfolding(crate::specs::Text::refused_line))]
+    pub(crate) fn put_refused(&mut self, number: u32)
+        requires { self.old.len + 29 ≤ length self.old.out.now }
+        ensures { Adds self.old (refused_line number) self.new }
+    {
+        self.put_line(b"refused", &[u64::from(number)]);
+    }
+}
+
+// The word that three shares add up to.
+fn sum(words: &[u32; 3]) -> u32
+    ensures { result ≡ sum_of (modulus 5) (shares (slice_index words.now 0) (slice_index words.now 1) (slice_index words.now 2)) }
+{
+    let [one, two, three] = *words;
+    open::total(Shares { one, two, three })
 }

@@ -1,16 +1,16 @@
--- The decimal digits of a number: what they are, how many, and how they are put.
-use Prim.Native.Nat.{ℕ, zero, suc, ◌+◌, ◌-◌, ◌/◌, ◌≤◌, ◌<◌}
-use mathlib.Core.Path.{◌≡◌, refl, sym}
+-- The decimal digits of a number: what they are, how many, and that the library prints the same.
+use Prim.Native.Nat.{ℕ, zero, suc, ◌/◌, ◌^◌, ◌≤◌, ◌<◌, ◌+◌}
+use mathlib.Core.Path.{◌≡◌, refl, sym, ap, ◌∙◌}
 use mathlib.Core.Bool.{Bool, true, false, cond}
 use mathlib.Core.List.{List, [], ◌∷◌, ◌++◌}
-use native.Mathlib.Nat.{add-zero}
+use native.Mathlib.Nat.{pow-suc}
 use native.Mathlib.Omega.{arith}
 use borrow.Author.Tests.{ltb-true, ltb-false}
 use lib.Dec.{ltb}
-use lib.ListN.{length, set, length-append}
-use lib.Seq.{sets}
-use Rattle.session.specs.Text.{last_digit, digits}
-use Rattle.session.proofs.Laws.Puts.{Put, put_then}
+use lib.ListN.{length, length-append}
+use Rattle.std.specs.Fmt.{decimal as printed}
+use Rattle.std.proofs.lemmas.Fmt.{decimal_digit, decimal_step}
+use Rattle.session.specs.Text.{last_digit, digits, decimal}
 
 pub digits_none : (n : ℕ) → digits 0 n ≡ []
 unfolding digits
@@ -33,25 +33,14 @@ digits-length (suc k) n =
     digits_by k n (λ l. length l ≤ suc k) (λ h. omega arith)
     (λ h. omega (arith, length-append (digits k (n / 10)) last, digits-length k (n / 10)))
 
--- the same as a rule for `omega`, which finds the digits that were put
-pub digits-room : (l m : List ℕ) (at k n : ℕ) → m ≡ sets l at (digits k n) → length (digits k n) ≤ k
-digits-room l m at k n e = digits-length k n
+-- ---- they are the library's
 
--- ---- digits put at a place
+digits_are : (k n : ℕ) → n < 10 ^ suc k → n < 2 ^ 64 → digits (suc k) n ≡ printed n
+digits_are zero n h w = digits_by zero n (λ l. l ≡ printed n) (λ one. sym (decimal_digit n one)) (λ more. let z : ⊥ = omega arith in absurd z)
+digits_are (suc k) n h w =
+    let upper : n / 10 < 10 ^ suc k = omega (arith, pow-suc 10 (suc k)) in
+    digits_by (suc k) n (λ l. l ≡ printed n) (λ one. sym (decimal_digit n one))
+    (λ more. ap (λ (l : List ℕ). l ++ (last_digit n ∷ [])) (digits_are k (n / 10) upper (omega arith)) ∙ sym (decimal_step n more w))
 
-pub put_none : (l : List ℕ) (at k n : ℕ) → k ≡ 0 → Put l at (digits k n) l at
-put_none l at k n e = rw (e, digits_none n) (refl, sym (add-zero at))
-
-pub put_one : (l : List ℕ) (at k n : ℕ) → (k ≡ 0 → ⊥) → n < 10 → Put l at (digits k n) (set l at (48 + n)) (at + 1)
-put_one l at zero n z h = absurd (z refl)
-put_one l at (suc k) n z h =
-    digits_by k n (λ s. Put l at s (set l at (48 + n)) (at + 1)) (λ g. (refl, refl)) (λ g. let w : ⊥ = omega arith in absurd w)
-
-pub put_more : (l : List ℕ) (at k n : ℕ) {m : List ℕ} {r : ℕ} → (k ≡ 0 → ⊥) → 10 ≤ n
-    → Put l at (digits (k - 1) (n / 10)) m r → Put l at (digits k n) (set m r (last_digit n)) (r + 1)
-put_more l at zero n z h p = absurd (z refl)
-put_more l at (suc k) n {m} {r} z h p =
-    let e : suc k - 1 ≡ k = omega arith in
-    let q : Put l at (digits k (n / 10)) m r = rw e at p in
-    digits_by k n (λ s. Put l at s (set m r (last_digit n)) (r + 1)) (λ g. let w : ⊥ = omega arith in absurd w)
-    (λ g. put_then l at (digits k (n / 10)) (last_digit n ∷ []) q (refl, refl))
+pub decimal_is : (n : ℕ) → n < 2 ^ 64 → decimal n ≡ printed n
+decimal_is n h = digits_are 19 n (omega arith) h

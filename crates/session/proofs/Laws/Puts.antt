@@ -1,20 +1,73 @@
--- Texts that are put into a buffer, one after the other.
-use Prim.Native.Nat.{ℕ, ◌+◌}
-use mathlib.Core.Path.{◌≡◌, ◌∙◌}
-use mathlib.Core.List.{List, ◌++◌}
+-- Text that grows: texts put into a buffer, one after the other.
+use Prim.Native.Nat.{ℕ, ◌+◌, ◌^◌, ◌≤◌, ◌<◌}
+use mathlib.Core.Path.{◌≡◌, refl, sym, ap, ◌∙◌}
+use mathlib.Core.List.{List, [], ◌∷◌, ◌++◌, append-nil, append_assoc}
 use native.Mathlib.Omega.{arith}
-use lib.ListN.{length, length-append}
-use lib.Seq.{sets}
+use borrow.Rule.Slice.PartMut.{put_mid}
+use lib.ListN.{length, take, drop, length-append}
+use lib.Seq.{sets, sets-eq, length-sets}
+use Rattle.std.proofs.Common.{drop-drop}
 use Rattle.protocols.proofs.Laws.Puts.{sets-append}
+use Rattle.session.specs.declared.text.Text.{Text}
+use Rattle.std.specs.Fmt.{decimal as printed}
+use Rattle.session.specs.Text.{spaced}
+use Rattle.session.specs.Writing.{Adds}
+use Rattle.session.proofs.Laws.Text.{spaced_one}
 
--- a text s, put at a place of l, leaves m and the place r after it
-abbrev pub Put : List ℕ → ℕ → List ℕ → List ℕ → ℕ → Type 0
-Put l at s m r = (m ≡ sets l at s) × (r ≡ at + length s)
+-- a text copied over a part of the buffer
+put_over : (l s t : List ℕ) (at k : ℕ) → t ≡ s → k ≡ length s → at + length s ≤ length l → put_mid at k l t ≡ sets l at s
+put_over l s t at k e n h = rw (e, n, drop-drop (length s) at l) (sym (sets-eq s l at h ∙ append_assoc (take at l) s (drop (at + length s) l)))
 
-module _ (l : List ℕ) (at : ℕ) (s t : List ℕ) {m : List ℕ} {r : ℕ} where
-  pub put_then : {o : List ℕ} {q : ℕ} → Put l at s m r → Put m r t o q → Put l at (s ++ t) o q
-  put_then a b = (b.0 ∙ rw (a.0, a.1) (sets-append l s t at), omega (arith, length-append s t, a.1, b.1))
+pub adds_copied : {a b : Text} {t : List ℕ} {k : ℕ} (s : List ℕ) → b.out.ghost_name ≡ a.out.ghost_name → b.out.now ≡ put_mid a.len k a.out.now t
+    → b.len ≡ a.len + length s → t ≡ s → k ≡ length s → a.len + length s ≤ length a.out.now → Adds a s b
+adds_copied {a} {b} {t} {k} s g e n et ek h =
+    let put = e ∙ put_over a.out.now s t a.len k et ek h in
+    let same : length b.out.now ≡ length a.out.now = ap length put ∙ length-sets a.out.now a.len s in
+    record { same_reference = g; bytes = put; len = n; same_room = same; fits = omega arith }
 
-  -- of a text that is s and then t, what is left after s is t
-  pub put_rest : {all : List ℕ} → Put l at s m r → all ≡ s ++ t → (sets m r t ≡ sets l at all) × (r + length t ≡ at + length all)
-  put_rest a e = rw e (rw (a.0, a.1) (sets-append l s t at), omega (arith, length-append s t, a.1))
+pub adds_then : {a b c : Text} (s t : List ℕ) → Adds a s b → Adds b t c → Adds a (s ++ t) c
+adds_then {a} s t h k =
+    record {
+      same_reference = k.same_reference ∙ h.same_reference;
+      bytes = k.bytes ∙ rw (h.bytes, h.len) (sets-append a.out.now s t a.len);
+      len = omega (arith, length-append s t, h.len, k.len);
+      same_room = k.same_room ∙ h.same_room;
+      fits = k.fits;
+    }
+
+pub adds_nothing : {a : Text} → a.len ≤ length a.out.now → Adds a [] a
+adds_nothing h = record { same_reference = refl; bytes = refl; len = omega arith; same_room = refl; fits = h }
+
+-- a number is a space and what the library prints
+pub adds_number : {a b c : Text} (n : ℕ) (t : List ℕ) → n < 2 ^ 64 → t ≡ printed n → Adds a (32 ∷ []) b → Adds b t c → Adds a (spaced (n ∷ [])) c
+adds_number n t h e space rest = rw (spaced_one n h, ← e) (adds_then (32 ∷ []) t space rest)
+
+-- ---- text of which a part is done, and the rest left
+
+pub record Begun (old : Text) (whole left : List ℕ) (most : ℕ) (new : Text) : Type 0 where
+  pub done : List ℕ
+  pub added : Adds old done new
+  pub rest : done ++ left ≡ whole
+  pub short : length done ≤ most
+
+pub begun_more : {a b c : Text} {whole left : List ℕ} {n : ℕ} (s rest : List ℕ) (m : ℕ) → Begun a whole left n b → left ≡ s ++ rest → length s + n ≤ m
+    → Adds b s c → Begun a whole rest m c
+begun_more s rest m h e k d =
+    record {
+      done = h.done ++ s;
+      added = adds_then h.done s h.added d;
+      rest = append_assoc h.done s rest ∙ rw (← e) h.rest;
+      short = omega (arith, length-append h.done s, h.short);
+    }
+
+pub begun_all : {a b : Text} {whole left : List ℕ} {n : ℕ} → Begun a whole left n b → left ≡ [] → Adds a whole b
+begun_all h e = rw (← h.rest, e, append-nil) h.added
+
+pub begun_same : {a b : Text} {whole left : List ℕ} {n : ℕ} {rest : List ℕ} (m : ℕ) → Begun a whole left n b → left ≡ rest → n ≤ m → Begun a whole rest m b
+begun_same m h e k = record { done = h.done; added = h.added; rest = rw (← e) h.rest; short = omega (arith, h.short) }
+
+-- ---- the text of a whole buffer
+
+pub put_all : {a b : Text} {l s : List ℕ} {r : ℕ} → (a.out.now ≡ l) × (a.len ≡ 0) → Adds a s b → r ≡ b.len
+    → (b.out.now ≡ sets l 0 s) × (r ≡ length s) × (r ≤ length b.out.now)
+put_all {s = s} e h er = (h.bytes ∙ rw (e.0, e.1), omega (arith, h.len, e.1, er), omega (arith, h.fits, er))

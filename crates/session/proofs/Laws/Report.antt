@@ -3,9 +3,8 @@ use Prim.Native.Nat.{ℕ, zero, suc, ◌+◌, ◌*◌, ◌/◌, ◌≤◌, ◌<�
 use mathlib.Core.Path.{◌≡◌, refl, sym, ap, ap₂, ◌∙◌, subst}
 use mathlib.Core.Bool.{Bool, true, false, cond, false≢true}
 use mathlib.Core.List.{List, [], ◌∷◌, ◌++◌}
-use native.Mathlib.Nat.{zero-add}
 use native.Mathlib.Omega.{arith}
-use borrow.Author.Tests.{eq-eqb, ne_eqb, eqb-true, eqb-false, leb-true, le-leb, lt-ltb, le-ltb}
+use borrow.Author.Tests.{eqb-true, eqb-false, leb-true, le-leb, lt-ltb, le-ltb}
 use lib.ListN.{length, take, drop, length-append, length-drop}
 use lib.Seq.{sets, length-take-le, get_or-take, take-take, take-append-le, drop-append-le}
 use lib.Dec.{eqb, leb}
@@ -19,11 +18,10 @@ use Rattle.session.specs.declared.answer.SessionAnswer.{SessionAnswer}
 use Rattle.session.specs.Words.{words_of}
 use Rattle.session.specs.Contents.{start_of, count_of, body, chained, within, Sheet, sheet_of}
 use Rattle.session.specs.Session.{State, lent_with, is_lent, refusal, refused, run_of, Outcome, outcome, finished, performed, with_words, session}
-use Rattle.session.specs.Text.{open_lines, end_line, stopped_line, last_line, is_early, refused_line, text_of, lines_with, text_from, Readable, printed, pool, rendered, into}
+use Rattle.session.specs.Text.{open_lines, last_line, is_early, refused_line, text_of, lines_with, text_from, Readable, printed, pool, rendered, into}
 use Rattle.session.proofs.Laws.Contents.{Accepted, bodies, long, twelve, at_most_4}
 use Rattle.session.proofs.Laws.Contents as contents
 use Rattle.session.proofs.Laws.Session.{session-run, session-refused}
-use Rattle.session.proofs.Laws.Puts.{Put, put_then}
 use Rattle.session.proofs.Laws.RunLines.{run_lines, run-done}
 
 -- ---- commands in threes
@@ -156,53 +154,34 @@ module _ (f w : List ℕ) (s : State) where
   pub told : Told (session f w s)
   told = told_by (eqb (refusal f w s) 0) refl
 
--- ---- as it is put into the buffer l
+-- ---- as the code has it
 
-module _ (a : SessionAnswer) (w shares l : List ℕ) where
-  -- the lines of opens among the first k words of the commands
+module _ (a : SessionAnswer) (w shares : List ℕ) where
+  pub early_text : is_early a.number ≡ true → text_from a w shares ≡ refused_line a.number
+  unfolding text_from
+  early_text e = rw e
+
+  -- the lines of opens among the first words of the commands
   abbrev opens_in : ℕ → List ℕ
-  opens_in k = lines_with (commands_of (take k (drop 12 w))) (sums_in_threes (modulus 5) (take a.place.received.controller shares))
+  opens_in n = lines_with (commands_of (take n (drop 12 w))) (sums_in_threes (modulus 5) (take a.place.received.controller shares))
 
-  abbrev pub Holds : List ℕ → ℕ → Type 0
-  Holds m r = (m ≡ sets l 0 (text_from a w shares)) × (r ≡ length (text_from a w shares))
-
-  pub early_put : {m : List ℕ} {r : ℕ} → is_early a.number ≡ true → Put l 0 (refused_line a.number) m r → Holds m r
+  pub late_text : (n : ℕ) → n ≡ 3 * a.done → is_early a.number ≡ false → text_from a w shares ≡ opens_in n ++ last_line a
   unfolding text_from
-  early_put e h = rw e (h.0, h.1 ∙ zero-add (length (refused_line a.number)))
-
-  late_put : {m o : List ℕ} {r q : ℕ} → is_early a.number ≡ false → Put l 0 (opens_in (3 * a.done)) m r → Put m r (last_line a) o q → Holds o q
-  unfolding text_from
-  late_put e h k =
-      let t = put_then l 0 (opens_in (3 * a.done)) (last_line a) h k in rw e (t.0, t.1 ∙ zero-add (length (opens_in (3 * a.done) ++ last_line a)))
-
-  -- the last line, by whether a command was refused
-  abbrev Last : List ℕ → ℕ → List ℕ → ℕ → Bool → Type 0
-  Last m r o q b = Put m r (cond b (end_line a) (stopped_line a.number a.done)) o q
-
-  module _ (n : ℕ) (en : n ≡ 3 * a.done) {m o : List ℕ} {r q : ℕ} (e : is_early a.number ≡ false) where
-    last_put : m ≡ sets l 0 (opens_in n) → r ≡ length (opens_in n) → Put m r (last_line a) o q → Holds o q
-    last_put h k d = late_put e (subst (λ (i : ℕ). Put l 0 (opens_in i) m r) en (h, k ∙ sym (zero-add (length (opens_in n))))) d
-
-    pub end_put : m ≡ sets l 0 (opens_in n) → r ≡ length (opens_in n) → a.number ≡ 0 → Put m r (end_line a) o q → Holds o q
-    end_put h k z d = last_put h k (subst (Last m r o q) (sym (eq-eqb a.number 0 z)) d)
-
-    pub stopped-put : m ≡ sets l 0 (opens_in n) → r ≡ length (opens_in n) → ¬ (a.number ≡ 0) → Put m r (stopped_line a.number a.done) o q
-        → Holds o q
-    stopped-put h k z d = last_put h k (subst (Last m r o q) (sym (ne_eqb a.number 0 z)) d)
-
--- ---- as the program has it
+  late_text n en e = rw (en, e)
 
 module _ (f w : List ℕ) (s : State) (out : List ℕ) where
-  pub long-put : {m : List ℕ} {r : ℕ} → 30768 < length f → Put out 0 (refused_line 3) m r → rendered r m w s ≡ into out (pool f w s)
+  pub long-put : {m : List ℕ} {n r : ℕ} → 30768 < length f → n ≡ 3 → m ≡ sets out 0 (refused_line n) → r ≡ length (refused_line n)
+      → rendered r m w s ≡ into out (pool f w s)
   unfolding pool
-  long-put h d = rw (lt-ltb 30768 (length f) h) (ap₂ (λ (n : ℕ) (o : List ℕ). rendered n o w s) (d.1 ∙ zero-add (length (refused_line 3))) d.0)
+  long-put h en e er = rw (lt-ltb 30768 (length f) h, ← en) (ap₂ (λ (k : ℕ) (o : List ℕ). rendered k o w s) er e)
 
   pub run-put : (a : SessionAnswer) (v : List ℕ) (t : State) {m : List ℕ} {r : ℕ} → length f ≤ 30768 → outcome a v t ≡ session f w s
-      → Holds a v t.received.controller out m r → rendered r m v t ≡ into out (pool f w s)
+      → m ≡ sets out 0 (text_from a v t.received.controller) → r ≡ length (text_from a v t.received.controller)
+      → rendered r m v t ≡ into out (pool f w s)
   unfolding pool
-  run-put a v t h e d =
+  run-put a v t h e em er =
       rw (le-ltb 30768 (length f) h)
-      ((λ i. rendered (d.1 i) (d.0 i) v t)
+      ((λ i. rendered (er i) (em i) v t)
       ∙ ap (λ (o : Outcome). into out (printed (text_from o.answer o.words o.state.received.controller) o.words o.state)) e
       ∙ ap (λ (x : List ℕ). into out (printed x (session f w s).words (session f w s).state)) (sym (told f w s).text))
 

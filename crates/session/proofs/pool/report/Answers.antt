@@ -1,27 +1,16 @@
 -- `session::pool::report` meets its contract.
 use Rattle.std.proofs.Common.{◌+◌, ◌-◌, ◌*◌, arith}
-use Rattle.session.proofs.Laws.Text.{end_line-length, stopped_line-length, refused_line-length}
-use Rattle.session.proofs.Laws.Report.{early_put, end_put, stopped-put}
+use Rattle.session.proofs.Laws.Puts.{adds_then, put_all}
+use Rattle.session.proofs.Laws.Report.{early_text, late_text}
 use Rattle.session.proofs.pool.report.Goals as goal
 
 pub returns-then-number : goal.returns-then-number
 returns-then-number c =
     let a = c.args in
-    let d = early_put a.answer a.words.now a.shares.now a.out.now c.if-number.true c.put_refused.ensures in
-    (d.0, d.1, omega (arith, c.put_refused.ensures.1, refused_line-length a.answer.number))
+    rw (early_text a.answer a.words.now a.shares.now c.if-number.true) (put_all c.new-text.ensures.empty c.put_refused.ensures c.len.ensures)
 
-pub returns-then-number-eq0 : goal.returns-then-number-eq0
-returns-then-number-eq0 c =
+pub returns : goal.returns
+returns c =
     let a = c.args in
-    let opens = c.put_opens-at.ensures in
-    let n = 12 + 3 * a.answer.done - 12 in
-    let d = end_put a.answer a.words.now a.shares.now a.out.now n (omega arith) c.if-number.false opens.0 opens.1 c.if-number-eq0.true c.put_end.ensures in
-    (d.0, d.1, omega (arith, c.put_end.ensures.1, end_line-length a.answer, opens.2, c.requires c.if-number.false))
-
-pub returns-else-number-eq0 : goal.returns-else-number-eq0
-returns-else-number-eq0 c =
-    let a = c.args in
-    let opens = c.put_opens-at.ensures in
-    let n = 12 + 3 * a.answer.done - 12 in
-    let d = stopped-put a.answer a.words.now a.shares.now a.out.now n (omega arith) c.if-number.false opens.0 opens.1 c.if-number-eq0.false c.put_stopped.ensures in
-    (d.0, d.1, omega (arith, c.put_stopped.ensures.1, stopped_line-length a.answer.number a.answer.done, opens.2, c.requires c.if-number.false))
+    rw (late_text a.answer a.words.now a.shares.now (12 + 3 * a.answer.done - 12) (omega arith) c.if-number.false)
+    (put_all c.new-text.ensures.empty (adds_then _ _ c.put_opens.ensures.added c.put_last.ensures) c.len-2.ensures)

@@ -1,0 +1,12 @@
+-- Text that grows in a lent buffer.
+use Rattle.std.specs.Prelude.{ℕ, ◌≡◌, ◌+◌, ◌≤◌, List, length}
+use Rattle.std.proofs.lemmas.List.Edits.{sets}
+use Rattle.session.specs.declared.text.Text.{Text}
+
+-- the text with s behind it, in the same buffer
+pub record Adds (old : Text) (s : List ℕ) (new : Text) : Type 0 where
+  pub same_reference : new.out.ghost_name ≡ old.out.ghost_name
+  pub bytes : new.out.now ≡ sets old.out.now old.len s
+  pub len : new.len ≡ old.len + length s
+  pub same_room : length new.out.now ≡ length old.out.now
+  pub fits : new.len ≤ length new.out.now
