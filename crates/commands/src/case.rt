@@ -1,100 +1,84 @@
 // A case: its lists are read, its commands run, and what they leave is printed.
-use crate::run::Ends;
-use crate::{print, run, scan};
+use crate::run;
+use crate::run::Supplied;
+use crate::scan::Scanner;
 use std::io;
 use std::io::Write;
 
-// The share tables and the kinds, whole, unfilled parts too: so a word written where none is due shows.
+// The most words of a list.
+const ROOM: usize = 1024;
+
+// A list on a line, whole, the unfilled part too: so a word written where none is due shows.
+fn print_list(out: &mut impl Write, name: &str, list: &[u32]) -> io::Result<()> {
+    write!(out, "{name}")?;
+    for word in list {
+        write!(out, " {word}")?;
+    }
+    writeln!(out)
+}
+
+// The share tables and the kinds.
 fn tables(
     out: &mut impl Write,
-    text: &[u8],
-    at: &mut usize,
-    ends: Ends,
-    read: &[u32; 1024],
+    text: &mut Scanner,
+    supplied: Supplied,
     received1: &mut [u32],
     received2: &mut [u32],
     received3: &mut [u32],
     controller: &mut [u32],
 ) -> io::Result<()> {
-    let mut share1 = [0u32; 1024];
-    let mut share2 = [0u32; 1024];
-    let mut share3 = [0u32; 1024];
-    let mut kinds = [0u32; 1024];
-    let n1 = scan::list(text, at, &mut share1, 0);
-    let n2 = scan::list(text, at, &mut share2, 0);
-    let n3 = scan::list(text, at, &mut share3, 0);
-    let n = scan::list(text, at, &mut kinds, 0);
+    let mut room1 = [0u32; ROOM];
+    let mut room2 = [0u32; ROOM];
+    let mut room3 = [0u32; ROOM];
+    let mut room = [0u32; ROOM];
+    let share1 = text.numbers(&mut room1);
+    let share2 = text.numbers(&mut room2);
+    let share3 = text.numbers(&mut room3);
+    let kinds = text.numbers(&mut room);
     run::run(
-        out,
-        text,
-        at,
-        ends,
-        read,
-        &mut share1[..n1],
-        &mut share2[..n2],
-        &mut share3[..n3],
-        &mut kinds[..n],
-        received1,
-        received2,
-        received3,
+        out, text, supplied, share1, share2, share3, kinds, received1, received2, received3,
         controller,
     )?;
-    print::list(out, b"share1", &share1, n1)?;
-    print::list(out, b"share2", &share2, n2)?;
-    print::list(out, b"share3", &share3, n3)?;
-    print::list(out, b"kinds", &kinds, n)
+    print_list(out, "share1", share1)?;
+    print_list(out, "share2", share2)?;
+    print_list(out, "share3", share3)?;
+    print_list(out, "kinds", kinds)
 }
 
-// The received lists, whole likewise.
-fn lists(
-    out: &mut impl Write,
-    text: &[u8],
-    at: &mut usize,
-    ends: Ends,
-    read: &[u32; 1024],
-) -> io::Result<()> {
-    let mut received1 = [0u32; 1024];
-    let mut received2 = [0u32; 1024];
-    let mut received3 = [0u32; 1024];
-    let mut controller = [0u32; 1024];
-    let n1 = scan::list(text, at, &mut received1, 0);
-    let n2 = scan::list(text, at, &mut received2, 0);
-    let n3 = scan::list(text, at, &mut received3, 0);
-    let n = scan::list(text, at, &mut controller, 0);
+// The received lists.
+fn lists(out: &mut impl Write, text: &mut Scanner, supplied: Supplied) -> io::Result<()> {
+    let mut room1 = [0u32; ROOM];
+    let mut room2 = [0u32; ROOM];
+    let mut room3 = [0u32; ROOM];
+    let mut room = [0u32; ROOM];
+    let received1 = text.numbers(&mut room1);
+    let received2 = text.numbers(&mut room2);
+    let received3 = text.numbers(&mut room3);
+    let controller = text.numbers(&mut room);
     tables(
-        out,
-        text,
-        at,
-        ends,
-        read,
-        &mut received1[..n1],
-        &mut received2[..n2],
-        &mut received3[..n3],
-        &mut controller[..n],
+        out, text, supplied, received1, received2, received3, controller,
     )?;
-    print::list(out, b"received1", &received1, n1)?;
-    print::list(out, b"received2", &received2, n2)?;
-    print::list(out, b"received3", &received3, n3)?;
-    print::list(out, b"controller", &controller, n)
+    print_list(out, "received1", received1)?;
+    print_list(out, "received2", received2)?;
+    print_list(out, "received3", received3)?;
+    print_list(out, "controller", controller)
 }
 
-// A case begins with the line that names it. What is only read, inputs and tapes, stands in one list and is handed on as
-// parts of it.
-pub(crate) fn printed(out: &mut impl Write, text: &[u8], at: &mut usize) -> io::Result<()> {
-    print::text(out, scan::line(text, at))?;
-    print::text(out, b"\n")?;
-    let mut read = [0u32; 1024];
-    let inputs = scan::list(text, at, &mut read, 0);
-    let provider = scan::list(text, at, &mut read, inputs);
-    let one = scan::list(text, at, &mut read, provider);
-    let two = scan::list(text, at, &mut read, one);
-    let three = scan::list(text, at, &mut read, two);
-    let ends = Ends {
-        inputs,
-        provider,
-        one,
-        two,
-        three,
+// A case begins with the line that names it, and the lists that its commands only read.
+pub(crate) fn printed(out: &mut impl Write, text: &mut Scanner) -> io::Result<()> {
+    let name = text.line();
+    writeln!(out, "{name}")?;
+    let mut inputs = [0u32; ROOM];
+    let mut provider = [0u32; ROOM];
+    let mut tape1 = [0u32; ROOM];
+    let mut tape2 = [0u32; ROOM];
+    let mut tape3 = [0u32; ROOM];
+    let supplied = Supplied {
+        inputs: text.numbers(&mut inputs),
+        provider: text.numbers(&mut provider),
+        tape1: text.numbers(&mut tape1),
+        tape2: text.numbers(&mut tape2),
+        tape3: text.numbers(&mut tape3),
     };
-    lists(out, text, at, ends, &read)
+    lists(out, text, supplied)
 }

@@ -2,18 +2,18 @@
 #![tactic(auto)]
 
 mod case;
-mod print;
 mod run;
 mod scan;
 
+use scan::Scanner;
 use std::io;
 use std::io::Write;
 
 // The text begins with the number of cases.
-fn cases(out: &mut impl Write, text: &[u8]) -> io::Result<()> {
-    let mut at = 0;
-    for _ in 0..scan::number(text, &mut at) {
-        case::printed(out, text, &mut at)?;
+fn cases(out: &mut impl Write, text: &str) -> io::Result<()> {
+    let mut text = Scanner::new(text);
+    for _ in 0..text.count() {
+        case::printed(out, &mut text)?;
     }
     Ok(())
 }
@@ -21,5 +21,8 @@ fn cases(out: &mut impl Write, text: &[u8]) -> io::Result<()> {
 fn main(rt: HostRuntime) -> io::Result<()> {
     let mut file = [0u8; 400000];
     let n = reading::read_whole(&mut rt.stdin(), &mut file)?;
-    cases(&mut io::writer(&rt), &file[..n])
+    let Ok(text) = str::from_utf8(&file[..n]) else {
+        return Err(io::Error::from(io::ErrorKind::InvalidData));
+    };
+    cases(&mut io::writer(&rt), text)
 }

@@ -1,6 +1,4 @@
 // A session with lists of chosen lengths, all zero.
-ghost use Rattle.std.specs.Prelude.{◌≡◌, ◌≤◌, length, take};
-
 use session::pool::TEXT;
 use session::session::WORDS;
 use std::io;
@@ -15,13 +13,22 @@ pub struct Lending {
     pub words: usize,
 }
 
-// At most as many as there are.
-fn at_most(n: usize, list: &[u32]) -> usize
-    ensures { (result ≤ length list.now) × (result ≡ length (take result list.now)) }
-{
-    if n < list.len() { n } else { list.len() }
+// As `pool` lends them.
+pub(crate) const WHOLE: Lending = Lending {
+    entries: 128,
+    kinds: 128,
+    controller: 3584,
+    words: WORDS,
+};
+
+// The front of a list, or all of it.
+fn front(list: &mut [u32], count: usize) -> &mut [u32] {
+    let end = count.min(list.len());
+    &mut list[..end]
 }
 
+// The arrays are those of the program `pool`. It lends them whole: a function that serves both would give it lengths to choose, for this
+// test alone.
 pub(crate) fn print(out: &mut impl Write, file: &[u8], lent: Lending) -> io::Result<()> {
     let mut words = [0u32; WORDS];
     let mut share1 = [0u32; 128];
@@ -33,23 +40,17 @@ pub(crate) fn print(out: &mut impl Write, file: &[u8], lent: Lending) -> io::Res
     let mut received3 = [0u32; 3584];
     let mut controller = [0u32; 3584];
     let mut text = [0u8; TEXT];
-    let w = at_most(lent.words, &words);
-    let n1 = at_most(lent.entries, &share1);
-    let n2 = at_most(lent.entries, &share2);
-    let n3 = at_most(lent.entries, &share3);
-    let k = at_most(lent.kinds, &kinds);
-    let c = at_most(lent.controller, &controller);
     let length = session::pool::pool(
         file,
-        &mut words[..w],
-        &mut share1[..n1],
-        &mut share2[..n2],
-        &mut share3[..n3],
-        &mut kinds[..k],
+        front(&mut words, lent.words),
+        front(&mut share1, lent.entries),
+        front(&mut share2, lent.entries),
+        front(&mut share3, lent.entries),
+        front(&mut kinds, lent.kinds),
         &mut received1,
         &mut received2,
         &mut received3,
-        &mut controller[..c],
+        front(&mut controller, lent.controller),
         &mut text,
     );
     out.write_all(&text[..length])

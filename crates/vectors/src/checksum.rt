@@ -1,7 +1,9 @@
 // Two hundred generated cases of a protocol as one number: h becomes 31 h + word for each word of each outcome.
-use crate::lists::{Delivered, List};
-use crate::protocol::Protocol;
+use crate::case::WHOLE_LISTS;
+use crate::lists::Delivered;
+use crate::words::Generator;
 use crate::{case, lists, print};
+use machine::code::Code;
 use protocols::place::Place;
 use protocols::shares::Shares;
 use std::io;
@@ -16,50 +18,55 @@ fn count(h: u32, n: usize) -> u32 {
 }
 
 fn shares(h: u32, s: Shares) -> u32 {
-    word(word(word(h, s.one), s.two), s.three)
+    [s.one, s.two, s.three].iter().fold(h, |h, n| word(h, *n))
 }
 
 fn place(h: u32, place: Place) -> u32 {
     let drawn = place.drawn;
     let received = place.received;
-    let a = count(count(h, place.handles), place.inputs);
-    let b = count(count(a, drawn.provider), drawn.one);
-    let c = count(count(b, drawn.two), drawn.three);
-    let d = count(count(c, received.one), received.two);
-    count(count(d, received.three), received.controller)
+    [
+        place.handles,
+        place.inputs,
+        drawn.provider,
+        drawn.one,
+        drawn.two,
+        drawn.three,
+        received.one,
+        received.two,
+        received.three,
+        received.controller,
+    ]
+    .iter()
+    .fold(h, |h, n| count(h, *n))
 }
 
 // How many words were received, then the words.
-fn received(h: u32, list: &List) -> u32 {
-    let n = lists::received(list);
-    let mut x = count(h, n);
-    for entry in list.words.iter().take(n) {
-        x = word(x, *entry);
-    }
-    x
+fn received(h: u32, list: &[u32; 32]) -> u32 {
+    let words = lists::received(list);
+    list.iter()
+        .take(words)
+        .fold(count(h, words), |h, n| word(h, *n))
 }
 
 fn outcome(h: u32, delivered: &Delivered) -> u32 {
     let outcome = delivered.outcome;
-    let a = shares(word(h, outcome.number), outcome.shares);
-    let b = place(a, outcome.place);
-    let c = received(received(b, &delivered.one), &delivered.two);
-    received(received(c, &delivered.three), &delivered.controller)
+    let h = shares(word(h, outcome.number), outcome.shares);
+    let h = place(h, outcome.place);
+    delivered.lists.iter().fold(h, |h, list| received(h, list))
 }
 
-// Tapes are cut, so that some of the outcomes are not done. Answers where the generator is then.
-pub(crate) fn printed(out: &mut impl Write, protocol: Protocol, from: u32) -> io::Result<u32> {
-    let mut next = from;
+// Tapes are cut, so that some of the outcomes are not done.
+pub(crate) fn printed(
+    out: &mut impl Write,
+    code: Code,
+    generator: &mut Generator,
+) -> io::Result<()> {
     let mut h = 0;
     for _ in 0..200 {
-        let c = case::generated(protocol, next);
-        let p = case::perform(protocol, c.operands, c.place, c.lent, case::whole(), c.next);
-        h = outcome(h, &p.delivered);
-        next = p.next;
+        let c = case::generated(code, generator);
+        let delivered = case::perform(code, c.operands, c.place, c.lent, WHOLE_LISTS, generator);
+        h = outcome(h, &delivered);
     }
-    print::text(out, b"checksum ")?;
-    print::name(out, protocol)?;
-    print::word(out, h)?;
-    print::text(out, b"\n")?;
-    Ok(next)
+    let name = print::name(code);
+    writeln!(out, "checksum {name} {h}")
 }

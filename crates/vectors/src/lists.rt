@@ -1,87 +1,110 @@
 // The received lists of a case: 32 words each, 100 to 131 beforehand. No case sends the word that stands there, so each word
 // put into them shows.
-ghost use Rattle.std.specs.Prelude.{◌≤◌};
-
-use crate::case::Lent;
-use crate::protocol::{Operands, Protocol};
-use crate::{protocol, words};
+use crate::words;
+use machine::code::Code;
+use machine::given::Given;
+use machine::play;
 use protocols::outcome::Outcome;
-use protocols::place::Place;
+use protocols::place::{Place, Received};
+use std::fmt;
 
-// A list as it is left.
-#[derive(Clone, Copy)]
-pub struct List {
-    pub words: [u32; 32],
+// Whose list it is.
+#[derive(Clone, Copy, PartialEq, Eq)]
+pub enum Receiver {
+    One,
+    Two,
+    Three,
+    Controller,
 }
 
-// An outcome, and the lists as it leaves them.
+// In the order in which lists are printed.
+pub(crate) const RECEIVERS: [Receiver; 4] = [
+    Receiver::One,
+    Receiver::Two,
+    Receiver::Three,
+    Receiver::Controller,
+];
+
+impl Receiver {
+    // How many words are for this list.
+    pub(crate) fn due(self, received: Received) -> usize {
+        match self {
+            Receiver::One => received.one,
+            Receiver::Two => received.two,
+            Receiver::Three => received.three,
+            Receiver::Controller => received.controller,
+        }
+    }
+}
+
+impl fmt::Display for Receiver {
+    fn fmt<W: fmt::Write>(&self, f: &mut fmt::Formatter<W>) -> fmt::Result {
+        f.write_str(match self {
+            Receiver::One => "miner 1",
+            Receiver::Two => "miner 2",
+            Receiver::Three => "miner 3",
+            Receiver::Controller => "controller",
+        })
+    }
+}
+
+// An outcome, and the lists as it leaves them, as RECEIVERS has them.
 #[derive(Clone, Copy)]
 pub struct Delivered {
     pub outcome: Outcome,
-    pub one: List,
-    pub two: List,
-    pub three: List,
-    pub controller: List,
+    pub lists: [[u32; 32]; 4],
 }
 
-fn row() -> [u32; 32] {
-    let mut list = [0u32; 32];
-    words::count_from(&mut list, 100);
-    list
+// The words of a list beforehand.
+fn before() -> [u32; 32] {
+    words::in_a_row(100)
 }
 
 // How many words were put into a list.
-pub(crate) fn received(list: &List) -> usize {
-    words::changed(&list.words, 100)
+pub(crate) fn received(list: &[u32; 32]) -> usize {
+    list.iter()
+        .zip(&before())
+        .filter(|(word, before)| word != before)
+        .count()
 }
 
-// Where a tail of so many words begins.
-fn start(room: usize) -> usize
-    ensures { result ≤ 32 }
-{
-    if room < 32 {
-        return 32 - room;
-    }
-    0
+// A tail of a list, with so much room.
+fn tail(list: &mut [u32], room: usize) -> &mut [u32] {
+    let start = list.len().saturating_sub(room);
+    &mut list[start..]
 }
 
-// Performs a protocol on tails of the lists, with so much room.
+// Performs a protocol on tails of the lists, with so much room. The operands' input is also the constant or the position.
 pub(crate) fn perform(
-    protocol: Protocol,
-    x: Operands,
+    code: Code,
+    x: Given,
     place: Place,
-    room: Lent,
+    room: Received,
     provider: &[u32],
     tape1: &[u32],
     tape2: &[u32],
     tape3: &[u32],
 ) -> Delivered {
-    let mut one = row();
-    let mut two = row();
-    let mut three = row();
-    let mut controller = row();
-    let a = start(room.0);
-    let b = start(room.1);
-    let c = start(room.2);
-    let d = start(room.3);
-    let outcome = protocol::perform(
-        protocol,
+    let mut one = before();
+    let mut two = before();
+    let mut three = before();
+    let mut controller = before();
+    let outcome = play::play(
+        code,
+        x.input,
         x,
         place,
         provider,
         tape1,
         tape2,
         tape3,
-        &mut one[a..],
-        &mut two[b..],
-        &mut three[c..],
-        &mut controller[d..],
+        tail(&mut one, room.one),
+        tail(&mut two, room.two),
+        tail(&mut three, room.three),
+        tail(&mut controller, room.controller),
     );
     Delivered {
         outcome,
-        one: List { words: one },
-        two: List { words: two },
-        three: List { words: three },
-        controller: List { words: controller },
+        lists: [one, two, three, controller],
     }
 }

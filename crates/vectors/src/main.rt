@@ -6,32 +6,49 @@ mod checksum;
 mod delivery;
 mod lists;
 mod print;
-mod protocol;
 mod short;
 mod words;
 mod worked;
 
-use protocol::{ALL, Protocol};
+use machine::code::Code;
 use std::io;
 use std::io::Write;
+use words::Generator;
 
-// A protocol's generated cases: three in full, the tapes that end too soon, the lists that are too short, and two hundred as a
-// checksum. Answers where the generator is then.
-fn generated(out: &mut impl Write, protocol: Protocol, from: u32) -> io::Result<u32> {
-    let second = case::printed(out, b"case 1 ", protocol, from)?;
-    let third = case::printed(out, b"case 2 ", protocol, second)?;
-    let fourth = case::printed(out, b"case 3 ", protocol, third)?;
-    let more = short::printed(out, protocol, fourth)?;
-    delivery::printed(out, protocol, fourth)?;
-    checksum::printed(out, protocol, more)
+// In the order in which their protocols are run.
+const CODES: [Code; 12] = [
+    Code::Store,
+    Code::Add,
+    Code::Subtract,
+    Code::AddConstant,
+    Code::TimesConstant,
+    Code::Multiply,
+    Code::Reshare,
+    Code::Bits,
+    Code::Bit,
+    Code::Equal,
+    Code::Open,
+    Code::Below,
+];
+
+// A protocol's generated cases: three in full, the tapes that end too soon and, on the same words, the lists that are too short, and
+// two hundred as a checksum.
+fn generated(out: &mut impl Write, code: Code, generator: &mut Generator) -> io::Result<()> {
+    for number in 1..=3 {
+        case::printed(out, number, code, generator)?;
+    }
+    let same = *generator;
+    short::printed(out, code, generator)?;
+    delivery::printed(out, code, same)?;
+    checksum::printed(out, code, generator)
 }
 
 // Each protocol goes on with the words of the generator where the one before it stopped.
 fn printed(out: &mut impl Write) -> io::Result<()> {
     worked::printed(out)?;
-    let mut at = 1;
-    for protocol in ALL {
-        at = generated(out, protocol, at)?;
+    let mut generator = Generator::new(1);
+    for code in CODES {
+        generated(out, code, &mut generator)?;
     }
     Ok(())
 }

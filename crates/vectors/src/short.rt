@@ -1,78 +1,83 @@
 // Tapes with exactly enough words, and with one word too few: number 12, the place stays and no word is sent.
-use crate::case::Lent;
-use crate::protocol::{Need, Operands, Protocol};
-use crate::{case, lists, print, protocol};
+use crate::case::WHOLE_LISTS;
+use crate::words::Generator;
+use crate::{case, lists, print};
+use machine::code::Code;
+use machine::given::Given;
+use machine::row;
+use protocols::place::{Drawn, Party, Place};
 use std::io;
 use std::io::Write;
 
-// What is needed beside other words, as those drawn already, or one word less.
-pub(crate) fn lent_of(other: u8, need: u8, short: bool) -> usize {
-    let enough = other as usize + need as usize;
-    if short && 0 < enough {
-        enough - 1
-    } else {
-        enough
+// The place record 1 to 10, in which a changed number shows.
+pub(crate) fn place() -> Place {
+    Place::from([1, 2, 3, 4, 5, 6, 7, 8, 9, 10])
+}
+
+// What is needed beside other words, or one word less.
+pub(crate) fn enough(beside: usize, need: usize, is_short: bool) -> usize {
+    beside
+        .saturating_add(need)
+        .saturating_sub(usize::from(is_short))
+}
+
+// Enough of each tape beside the words drawn already, but for the one that is a word short.
+pub(crate) fn cut(code: Code, short: Option<Party>) -> Drawn {
+    let need = row::of(code).drawn;
+    let drawn = place().drawn;
+    let lent = |party| enough(drawn.of(party), need.of(party), short == Some(party));
+    Drawn {
+        provider: lent(Party::Provider),
+        one: lent(Party::One),
+        two: lent(Party::Two),
+        three: lent(Party::Three),
     }
 }
 
-// Enough of each tape but the one that is a word short: 0 the provider's, 1 to 3 the miners', 4 none.
-pub(crate) fn cut(need: Need, short: u8) -> Lent {
-    Lent(
-        lent_of(3, need.0, short == 0),
-        lent_of(4, need.1, short == 1),
-        lent_of(5, need.2, short == 2),
-        lent_of(6, need.3, short == 3),
-    )
-}
-
-// The place is the record 1 to 10, in which a changed number shows.
 fn line(
     out: &mut impl Write,
-    label: &[u8],
-    protocol: Protocol,
-    x: Operands,
-    short: u8,
-    from: u32,
-) -> io::Result<u32> {
-    let place = case::record([1, 2, 3, 4, 5, 6, 7, 8, 9, 10]);
-    let lent = cut(protocol::drawn_by(protocol), short);
-    let performed = case::perform(protocol, x, place, lent, case::whole(), from);
-    let delivered = performed.delivered;
-    let outcome = delivered.outcome;
-    print::text(out, label)?;
-    print::name(out, protocol)?;
-    print::number(out, outcome)?;
-    print::text(out, b" place")?;
-    print::place(out, outcome.place)?;
-    print::text(out, b" words")?;
-    print::count(out, lists::received(&delivered.one))?;
-    print::count(out, lists::received(&delivered.two))?;
-    print::count(out, lists::received(&delivered.three))?;
-    print::count(out, lists::received(&delivered.controller))?;
-    print::text(out, b"\n")?;
-    Ok(performed.next)
+    tape: &str,
+    code: Code,
+    x: Given,
+    short: Option<Party>,
+    generator: &mut Generator,
+) -> io::Result<()> {
+    let delivered = case::perform(code, x, place(), cut(code, short), WHOLE_LISTS, generator);
+    let name = print::name(code);
+    let number = delivered.outcome.number;
+    let place = delivered.outcome.place;
+    write!(
+        out,
+        "short {tape} {name} number {number} place {place} words"
+    )?;
+    for list in &delivered.lists {
+        let words = lists::received(list);
+        write!(out, " {words}")?;
+    }
+    writeln!(out)
 }
 
-// A protocol that draws has a line for each tape that it draws from and one for none. Answers where the generator is then.
-pub(crate) fn printed(out: &mut impl Write, protocol: Protocol, from: u32) -> io::Result<u32> {
-    if !protocol::draws(protocol) {
-        return Ok(from);
+// A protocol that draws has a line for each tape that it draws from and one for none, all on the same words.
+pub(crate) fn printed(
+    out: &mut impl Write,
+    code: Code,
+    generator: &mut Generator,
+) -> io::Result<()> {
+    if case::first_tape(code).is_none() {
+        return Ok(());
     }
-    let case = case::generated(protocol, from);
-    let x = case.operands;
-    let next = case.next;
-    let need = protocol::drawn_by(protocol);
-    if 0 < need.0 {
-        line(out, b"short provider ", protocol, x, 0, next)?;
+    let x = case::generated(code, generator).operands;
+    let need = row::of(code).drawn;
+    for (tape, party) in [
+        ("provider", Party::Provider),
+        ("miner 1", Party::One),
+        ("miner 2", Party::Two),
+        ("miner 3", Party::Three),
+    ] {
+        if 0 < need.of(party) {
+            let mut same = *generator;
+            line(out, tape, code, x, Some(party), &mut same)?;
+        }
     }
-    if 0 < need.1 {
-        line(out, b"short miner 1 ", protocol, x, 1, next)?;
-    }
-    if 0 < need.2 {
-        line(out, b"short miner 2 ", protocol, x, 2, next)?;
-    }
-    if 0 < need.3 {
-        line(out, b"short miner 3 ", protocol, x, 3, next)?;
-    }
-    line(out, b"short no tape ", protocol, x, 4, next)
+    line(out, "no tape", code, x, None, generator)
 }

@@ -1,47 +1,39 @@
 // Lists of words for the cases: those of a congruential generator, or numbers in a row.
-ghost use Rattle.std.specs.Prelude.{◌≡◌, length};
 
-fn step(x: u32) -> u32 {
-    x.wrapping_mul(1664525).wrapping_add(1013904223)
+// A generator, where it is.
+#[derive(Clone, Copy)]
+pub struct Generator {
+    at: u32,
 }
 
-// The low bits repeat too soon, so the high ones are folded into them.
-fn word(x: u32) -> u32 {
-    x ^ (x >> 16)
-}
-
-// Fills a list with the next words, and answers where the generator is then.
-pub(crate) fn fill(list: &mut [u32], from: u32) -> u32
-    ensures { length list.new ≡ length list.old }
-{
-    let mut x = from;
-    for entry in list.iter_mut() {
-        x = step(x);
-        *entry = word(x);
+impl Generator {
+    pub(crate) fn new(at: u32) -> Generator {
+        Generator { at }
     }
-    x
-}
 
-// Fills a list with numbers in a row.
-pub(crate) fn count_from(list: &mut [u32], first: u32)
-    ensures { length list.new ≡ length list.old }
-{
-    let mut x = first;
-    for entry in list.iter_mut() {
-        *entry = x;
-        x = x.wrapping_add(1);
+    // The low bits repeat too soon, so the high ones are folded into them.
+    fn next_word(&mut self) -> u32 {
+        self.at = self.at.wrapping_mul(1664525).wrapping_add(1013904223);
+        self.at ^ (self.at >> 16)
     }
-}
 
-// How many words of a list are not those of numbers in a row.
-pub(crate) fn changed(list: &[u32], first: u32) -> usize {
-    let mut count: usize = 0;
-    let mut x = first;
-    for entry in list {
-        if *entry != x {
-            count += 1;
+    // The next words.
+    pub(crate) fn words<const N: usize>(&mut self) -> [u32; N] {
+        let mut words = [0; N];
+        for word in &mut words {
+            *word = self.next_word();
         }
-        x = x.wrapping_add(1);
+        words
     }
-    count
+}
+
+// Numbers in a row.
+pub(crate) fn in_a_row<const N: usize>(first: u32) -> [u32; N] {
+    let mut words = [0; N];
+    let mut next = first;
+    for word in &mut words {
+        *word = next;
+        next = next.wrapping_add(1);
+    }
+    words
 }
