@@ -38,6 +38,13 @@ impl Tapes<'_> {
 }
 
 impl Lists<'_> {
+    // The controller's list, to be read.
+    pub fn controller(&self) -> &[u32]
+        ensures { result.now ≡ self.now.controller.now }
+    {
+        self.controller
+    }
+
     // Whether the lists have room for so many words.
     pub(crate) fn have_room(&self, one: usize, two: usize, three: usize, controller: usize) -> bool
         ensures { result ≡ holds (lists_of self.now) (received one two three controller) }

@@ -2,7 +2,10 @@
 use Rattle.std.specs.Prelude.{ℕ, ◌/◌, ◌%◌, Bool, cond, ◌&&◌, List, ◌++◌, length, take, drop, nat_le, nat_eq}
 use Rattle.protocols.specs.declared.place.Place.{Place}
 use Rattle.protocols.specs.Place.{Lists}
-use Rattle.machine.specs.Lent.{Tables, Lent, lent, sizes}
+use Rattle.protocols.specs.declared.lent.Lists as code_lists
+use Rattle.protocols.specs.Lent.{lists_of}
+use Rattle.machine.specs.declared.lent.Tables as code_tables
+use Rattle.machine.specs.Lent.{Tables, tables_of, Lent, lent, sizes}
 use Rattle.machine.specs.Verdict.{check, same_length}
 use Rattle.machine.specs.Run.{Ran, run_to_refusal, accepted, refused_with, empty}
 use Rattle.session.specs.declared.answer.SessionAnswer.{SessionAnswer}
@@ -17,6 +20,10 @@ pub record State : Type 0 where
 
 abbrev pub state : Tables → List ℕ → Lists → State
 state t k r = record { tables = t; kinds = k; received = r }
+
+-- as the code holds it
+abbrev pub lent_state : code_tables.Tables → code_lists.Lists → State
+lent_state t r = state (tables_of t) t.kinds.now (lists_of r)
 
 -- what a sheet's commands are lent, and what of it is the session's own
 abbrev pub lent_with : Sheet → State → Lent

@@ -5,7 +5,7 @@ ghost use Rattle.session.specs.Session as spec;
 ghost use Rattle.machine.specs.Refusal.{number};
 
 use machine::refusal::Refusal;
-use protocols::place::{Drawn, Place, Received};
+use protocols::place::Place;
 
 // Commands done, the place record, and 0 or the refusal number: a number, and no Result, since C reads it.
 #[repr(C)]
@@ -16,35 +16,13 @@ pub struct SessionAnswer {
     pub number: u32,
 }
 
-// Where every session starts.
-pub(crate) fn empty_place() -> Place
-    ensures { result ≡ empty }
-{
-    Place {
-        handles: 0,
-        inputs: 0,
-        drawn: Drawn {
-            provider: 0,
-            one: 0,
-            two: 0,
-            three: 0,
-        },
-        received: Received {
-            one: 0,
-            two: 0,
-            three: 0,
-            controller: 0,
-        },
-    }
-}
-
 // Of a session that is turned down as a whole.
 pub(crate) fn refused(refusal: Refusal) -> SessionAnswer
     ensures { result ≡ spec.answer 0 empty (number refusal) }
 {
     SessionAnswer {
         done: 0,
-        place: empty_place(),
+        place: Place::default(),
         number: u32::from(refusal),
     }
 }

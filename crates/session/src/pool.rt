@@ -1,16 +1,18 @@
 // What the program `pool` does between reading and writing.
 ghost use Rattle.std.specs.Prelude.{◌≡◌, false, ◌≤◌, length, take};
 ghost use Rattle.std.proofs.lemmas.List.Edits.{sets};
-ghost use Rattle.protocols.specs.Place.{lists};
-ghost use Rattle.machine.specs.Lent.{tables};
-ghost use Rattle.session.specs.Session.{state};
+ghost use Rattle.protocols.specs.Lent.{Same};
+ghost use Rattle.machine.specs.Lent.{SameTables};
+ghost use Rattle.session.specs.Session.{lent_state};
 ghost use Rattle.session.specs.Text.{is_early, text_from, Readable, rendered, into};
 ghost use Rattle.session.specs.Text as spec;
 
 use super::answer::SessionAnswer;
 use super::session;
 use super::text::Text;
+use machine::lent::Tables;
 use machine::refusal::Refusal;
+use protocols::lent::Lists;
 
 // The longest legal file.
 pub const BYTES: usize = 30768;
@@ -39,17 +41,13 @@ fn report(answer: SessionAnswer, words: &[u32], shares: &[u32], out: &mut [u8; T
 pub fn pool(
     file: &[u8],
     words: &mut [u32],
-    share1: &mut [u32],
-    share2: &mut [u32],
-    share3: &mut [u32],
-    kinds: &mut [u32],
-    received1: &mut [u32],
-    received2: &mut [u32],
-    received3: &mut [u32],
-    controller: &mut [u32],
+    tables: &mut Tables,
+    lists: &mut Lists,
     out: &mut [u8; TEXT],
 ) -> usize
-    ensures printed { rendered result out.new words.new (state (tables share1.new share2.new share3.new) kinds.new (lists received1.new received2.new received3.new controller.new)) ≡ into out.old (spec.pool file.now words.old (state (tables share1.old share2.old share3.old) kinds.old (lists received1.old received2.old received3.old controller.old))) }
+    ensures same_tables { SameTables tables.old tables.new }
+    ensures same_lists { Same lists.old lists.new }
+    ensures printed { rendered result out.new words.new (lent_state tables.new lists.new) ≡ into out.old (spec.pool file.now words.old (lent_state tables.old lists.old)) }
     ensures within { (result ≤ length out.new) × (result ≡ length (take result out.new)) }
 {
     if BYTES < file.len() {
@@ -57,8 +55,6 @@ pub fn pool(
         text.put_refused(u32::from(Refusal::OverLimit));
         return text.len();
     }
-    let answer = session::session(
-        file, words, share1, share2, share3, kinds, received1, received2, received3, controller,
-    );
-    report(answer, words, controller, out)
+    let answer = session::session(file, words, tables, lists);
+    report(answer, words, lists.controller(), out)
 }

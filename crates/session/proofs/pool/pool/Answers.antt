@@ -12,10 +12,10 @@ returns-then-file-gt-BYTES-clause-printed c =
 pub report-requires : goal.report-requires
 report-requires c =
     let a = c.args in
-    left_readable a.file.now a.words.now _ a.out.now c.session-answer.result _ _ c.session-answer.ensures
+    rw c.controller.ensures (left_readable a.file.now a.words.now _ a.out.now c.session-answer.result _ _ c.session-answer.ensures.done)
 
 pub returns-clause-printed : goal.returns-clause-printed
 returns-clause-printed c =
     let a = c.args in
-    let put = c.report.ensures in
-    run-put a.file.now a.words.now _ a.out.now c.session-answer.result _ _ c.if-file-gt-BYTES.false c.session-answer.ensures put.0 put.1
+    let put = rw c.controller.ensures at c.report.ensures in
+    run-put a.file.now a.words.now _ a.out.now c.session-answer.result _ _ c.if-file-gt-BYTES.false c.session-answer.ensures.done put.0 put.1

@@ -1,17 +1,14 @@
 -- `session::session::session` meets its contract.
 use Rattle.std.proofs.Common.{ℕ, ◌/◌, List, length, take, sym, ap, subst, ◌∙◌, arith}
 use Rattle.std.proofs.Math.Seq.{length-take-le}
-use Rattle.protocols.specs.Place.{lists}
-use Rattle.machine.specs.Lent.{tables}
 use Rattle.session.specs.Contents.{Bodies}
-use Rattle.session.specs.Session.{State, state}
 use Rattle.session.proofs.Laws.Words.{front}
 use Rattle.session.proofs.Laws.Contents.{accepted, bodies}
 use Rattle.session.proofs.Laws.Session.{session-turned_down, words_lent, session-done}
 use Rattle.session.proofs.session.session.Goals as goal
 
-pub returns-in-Err : goal.returns-in-Err
-returns-in-Err c = session-turned_down c.args.file.now c.args.words.now _ c.in-Err.refusal c.in-Err.ensures c.refused.result c.refused.ensures
+pub returns-in-Err-clause-done : goal.returns-in-Err-clause-done
+returns-in-Err-clause-done c = session-turned_down c.args.file.now c.args.words.now _ c.in-Err.refusal c.in-Err.ensures c.refused.result c.refused.ensures
 
 pub decode-requires : goal.decode-requires
 decode-requires c = words_lent c.args.file.now c.args.words.now _ (sym c.in_default.ensures)
@@ -33,11 +30,8 @@ run_words-requires c =
     subst Bodies (sym (ap (λ (l : List ℕ). take (length f / 4) l) c.decode.ensures ∙ front f a.words.now))
     (bodies f (accepted f _ (sym c.in_default.ensures)))
 
-pub returns : goal.returns
-returns c =
+pub returns-clause-done : goal.returns-clause-done
+returns-clause-done c =
     let a = c.args in
-    let s : State =
-    state (tables a.share1.now a.share2.now a.share3.now) a.kinds.now (lists a.received1.now a.received2.now a.received3.now a.controller.now)
-    in
-    session-done a.file.now a.words.now s (sym c.in_default.ensures) c.decode.new.words c.decode.ensures c.run_words.result _
-    c.run_words.ensures
+    session-done a.file.now a.words.now _ (sym c.in_default.ensures) c.decode.new.words c.decode.ensures c.run_words.result _
+    c.run_words.ensures.done
