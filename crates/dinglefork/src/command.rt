@@ -7,7 +7,10 @@ ghost use Rattle.machine.specs.Command.{outcome};
 ghost use Rattle.machine.specs.Command as spec;
 
 use machine::answer::Answer;
+use machine::code::Command;
 use machine::command;
+use machine::lent::Tables;
+use protocols::lent::{Lists, Tapes};
 use protocols::place::Place;
 
 #[unsafe(no_mangle)]
@@ -32,8 +35,30 @@ pub extern "C" fn dinglefork_command(
 ) -> Answer
     ensures { outcome result (lent (tables share1.new share2.new share3.new) kinds.new inputs.now (tapes provider.now tape1.now tape2.now tape3.now) (lists received1.new received2.new received3.new controller.new)) ≡ spec.command 5 (table.command code a b) place (lent (tables share1.old share2.old share3.old) kinds.old inputs.now (tapes provider.now tape1.now tape2.now tape3.now) (lists received1.old received2.old received3.old controller.old)) }
 {
+    let mut tables = Tables {
+        one: share1,
+        two: share2,
+        three: share3,
+        kinds,
+    };
+    let tapes = Tapes {
+        provider,
+        one: tape1,
+        two: tape2,
+        three: tape3,
+    };
+    let mut lists = Lists {
+        one: received1,
+        two: received2,
+        three: received3,
+        controller,
+    };
     command::command(
-        code, a, b, place, share1, share2, share3, kinds, inputs, provider, tape1, tape2, tape3,
-        received1, received2, received3, controller,
+        Command { code, a, b },
+        place,
+        &mut tables,
+        inputs,
+        &tapes,
+        &mut lists,
     )
 }

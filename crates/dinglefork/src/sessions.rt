@@ -5,6 +5,8 @@ ghost use Rattle.machine.specs.Lent.{tables};
 ghost use Rattle.session.specs.Session.{state, outcome};
 ghost use Rattle.session.specs.Session as spec;
 
+use machine::lent::Tables;
+use protocols::lent::Lists;
 use session::answer::SessionAnswer;
 
 #[unsafe(no_mangle)]
@@ -22,7 +24,17 @@ pub extern "C" fn dinglefork_session(
 ) -> SessionAnswer
     ensures { outcome result words.new (state (tables share1.new share2.new share3.new) kinds.new (lists received1.new received2.new received3.new controller.new)) ≡ spec.session file.now words.old (state (tables share1.old share2.old share3.old) kinds.old (lists received1.old received2.old received3.old controller.old)) }
 {
-    session::session::session(
-        file, words, share1, share2, share3, kinds, received1, received2, received3, controller,
-    )
+    let mut tables = Tables {
+        one: share1,
+        two: share2,
+        three: share3,
+        kinds,
+    };
+    let mut lists = Lists {
+        one: received1,
+        two: received2,
+        three: received3,
+        controller,
+    };
+    session::session::session(file, words, &mut tables, &mut lists)
 }

@@ -6,6 +6,8 @@ ghost use Rattle.session.specs.Session.{state};
 ghost use Rattle.session.specs.Text.{rendered, into};
 ghost use Rattle.session.specs.Text as spec;
 
+use machine::lent::Tables;
+use protocols::lent::Lists;
 use session::pool::TEXT;
 
 #[unsafe(no_mangle)]
@@ -24,8 +26,17 @@ pub extern "C" fn dinglefork_pool(
 ) -> usize
     ensures { rendered result out.new words.new (state (tables share1.new share2.new share3.new) kinds.new (lists received1.new received2.new received3.new controller.new)) ≡ into out.old (spec.pool file.now words.old (state (tables share1.old share2.old share3.old) kinds.old (lists received1.old received2.old received3.old controller.old))) }
 {
-    session::pool::pool(
-        file, words, share1, share2, share3, kinds, received1, received2, received3, controller,
-        out,
-    )
+    let mut tables = Tables {
+        one: share1,
+        two: share2,
+        three: share3,
+        kinds,
+    };
+    let mut lists = Lists {
+        one: received1,
+        two: received2,
+        three: received3,
+        controller,
+    };
+    session::pool::pool(file, words, &mut tables, &mut lists, out)
 }
