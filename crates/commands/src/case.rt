@@ -2,6 +2,8 @@
 use crate::run;
 use crate::run::Supplied;
 use crate::scan::Scanner;
+use machine::lent::Tables;
+use protocols::lent::{Lists, Tapes};
 use std::io;
 use std::io::Write;
 
@@ -18,50 +20,46 @@ fn print_list(out: &mut impl Write, name: &str, list: &[u32]) -> io::Result<()> 
 }
 
 // The share tables and the kinds.
-fn tables(
+fn with_tables(
     out: &mut impl Write,
     text: &mut Scanner,
     supplied: Supplied,
-    received1: &mut [u32],
-    received2: &mut [u32],
-    received3: &mut [u32],
-    controller: &mut [u32],
+    lists: &mut Lists,
 ) -> io::Result<()> {
-    let mut room1 = [0u32; ROOM];
-    let mut room2 = [0u32; ROOM];
-    let mut room3 = [0u32; ROOM];
-    let mut room = [0u32; ROOM];
-    let share1 = text.numbers(&mut room1);
-    let share2 = text.numbers(&mut room2);
-    let share3 = text.numbers(&mut room3);
-    let kinds = text.numbers(&mut room);
-    run::run(
-        out, text, supplied, share1, share2, share3, kinds, received1, received2, received3,
-        controller,
-    )?;
-    print_list(out, "share1", share1)?;
-    print_list(out, "share2", share2)?;
-    print_list(out, "share3", share3)?;
-    print_list(out, "kinds", kinds)
+    let mut one = [0u32; ROOM];
+    let mut two = [0u32; ROOM];
+    let mut three = [0u32; ROOM];
+    let mut kinds = [0u32; ROOM];
+    let mut tables = Tables {
+        one: text.numbers(&mut one),
+        two: text.numbers(&mut two),
+        three: text.numbers(&mut three),
+        kinds: text.numbers(&mut kinds),
+    };
+    run::run(out, text, supplied, &mut tables, lists)?;
+    print_list(out, "share1", tables.one)?;
+    print_list(out, "share2", tables.two)?;
+    print_list(out, "share3", tables.three)?;
+    print_list(out, "kinds", tables.kinds)
 }
 
 // The received lists.
-fn lists(out: &mut impl Write, text: &mut Scanner, supplied: Supplied) -> io::Result<()> {
-    let mut room1 = [0u32; ROOM];
-    let mut room2 = [0u32; ROOM];
-    let mut room3 = [0u32; ROOM];
-    let mut room = [0u32; ROOM];
-    let received1 = text.numbers(&mut room1);
-    let received2 = text.numbers(&mut room2);
-    let received3 = text.numbers(&mut room3);
-    let controller = text.numbers(&mut room);
-    tables(
-        out, text, supplied, received1, received2, received3, controller,
-    )?;
-    print_list(out, "received1", received1)?;
-    print_list(out, "received2", received2)?;
-    print_list(out, "received3", received3)?;
-    print_list(out, "controller", controller)
+fn with_lists(out: &mut impl Write, text: &mut Scanner, supplied: Supplied) -> io::Result<()> {
+    let mut one = [0u32; ROOM];
+    let mut two = [0u32; ROOM];
+    let mut three = [0u32; ROOM];
+    let mut controller = [0u32; ROOM];
+    let mut lists = Lists {
+        one: text.numbers(&mut one),
+        two: text.numbers(&mut two),
+        three: text.numbers(&mut three),
+        controller: text.numbers(&mut controller),
+    };
+    with_tables(out, text, supplied, &mut lists)?;
+    print_list(out, "received1", lists.one)?;
+    print_list(out, "received2", lists.two)?;
+    print_list(out, "received3", lists.three)?;
+    print_list(out, "controller", lists.controller)
 }
 
 // A case begins with the line that names it, and the lists that its commands only read.
@@ -70,15 +68,17 @@ pub(crate) fn printed(out: &mut impl Write, text: &mut Scanner) -> io::Result<()
     writeln!(out, "{name}")?;
     let mut inputs = [0u32; ROOM];
     let mut provider = [0u32; ROOM];
-    let mut tape1 = [0u32; ROOM];
-    let mut tape2 = [0u32; ROOM];
-    let mut tape3 = [0u32; ROOM];
+    let mut one = [0u32; ROOM];
+    let mut two = [0u32; ROOM];
+    let mut three = [0u32; ROOM];
     let supplied = Supplied {
         inputs: text.numbers(&mut inputs),
-        provider: text.numbers(&mut provider),
-        tape1: text.numbers(&mut tape1),
-        tape2: text.numbers(&mut tape2),
-        tape3: text.numbers(&mut tape3),
+        tapes: Tapes {
+            provider: text.numbers(&mut provider),
+            one: text.numbers(&mut one),
+            two: text.numbers(&mut two),
+            three: text.numbers(&mut three),
+        },
     };
-    lists(out, text, supplied)
+    with_lists(out, text, supplied)
 }

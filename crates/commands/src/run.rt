@@ -1,19 +1,19 @@
 // A case's commands, one after the other, each given what the last one left.
 use crate::scan::Scanner;
 use machine::answer::Answer;
+use machine::code::Command;
 use machine::command;
+use machine::lent::Tables;
+use protocols::lent::{Lists, Tapes};
 use protocols::place::Place;
 use std::io;
 use std::io::Write;
 
-// What a case's commands only read: the inputs and the four tapes.
+// What a case's commands only read.
 #[derive(Clone, Copy)]
 pub struct Supplied<'a> {
     pub inputs: &'a [u32],
-    pub provider: &'a [u32],
-    pub tape1: &'a [u32],
-    pub tape2: &'a [u32],
-    pub tape3: &'a [u32],
+    pub tapes: Tapes<'a>,
 }
 
 // The next command. Answers the place record that it leaves.
@@ -22,42 +22,24 @@ fn step(
     text: &mut Scanner,
     place: Place,
     supplied: Supplied,
-    share1: &mut [u32],
-    share2: &mut [u32],
-    share3: &mut [u32],
-    kinds: &mut [u32],
-    received1: &mut [u32],
-    received2: &mut [u32],
-    received3: &mut [u32],
-    controller: &mut [u32],
+    tables: &mut Tables,
+    lists: &mut Lists,
 ) -> io::Result<Place> {
-    let mut command = [0u32; 3];
-    text.numbers(&mut command);
-    let [code, a, b] = command;
-    let answer = command::command(
-        code,
-        a,
-        b,
-        place,
-        share1,
-        share2,
-        share3,
-        kinds,
-        supplied.inputs,
-        supplied.provider,
-        supplied.tape1,
-        supplied.tape2,
-        supplied.tape3,
-        received1,
-        received2,
-        received3,
-        controller,
-    );
+    let mut words = [0u32; 3];
+    text.numbers(&mut words);
+    let [code, a, b] = words;
     let Answer {
         number,
         place,
         opened,
-    } = answer;
+    } = command::command(
+        Command { code, a, b },
+        place,
+        tables,
+        supplied.inputs,
+        &supplied.tapes,
+        lists,
+    );
     writeln!(
         out,
         "{code} {a} {b} answers {number} place {place} opened {opened}"
@@ -70,23 +52,14 @@ pub(crate) fn run(
     out: &mut impl Write,
     text: &mut Scanner,
     supplied: Supplied,
-    share1: &mut [u32],
-    share2: &mut [u32],
-    share3: &mut [u32],
-    kinds: &mut [u32],
-    received1: &mut [u32],
-    received2: &mut [u32],
-    received3: &mut [u32],
-    controller: &mut [u32],
+    tables: &mut Tables,
+    lists: &mut Lists,
 ) -> io::Result<()> {
     let mut start = [0; 10];
     text.numbers(&mut start);
     let mut place = Place::from(start);
     for _ in 0..text.count() {
-        place = step(
-            out, text, place, supplied, share1, share2, share3, kinds, received1, received2,
-            received3, controller,
-        )?;
+        place = step(out, text, place, supplied, tables, lists)?;
     }
     Ok(())
 }

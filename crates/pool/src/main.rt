@@ -1,6 +1,8 @@
 // Reads a session from standard input, runs it and prints its outcome.
 #![tactic(auto)]
 
+use machine::lent::Tables;
+use protocols::lent::Lists;
 use session::pool::{BYTES, TEXT};
 use session::session::WORDS;
 use std::io;
@@ -18,19 +20,19 @@ fn print_session(rt: &impl Print, file: &[u8]) -> io::Result<()> {
     let mut received3 = [0u32; 3584];
     let mut controller = [0u32; 3584];
     let mut out = [0u8; TEXT];
-    let length = session::pool::pool(
-        file,
-        &mut words,
-        &mut share1,
-        &mut share2,
-        &mut share3,
-        &mut kinds,
-        &mut received1,
-        &mut received2,
-        &mut received3,
-        &mut controller,
-        &mut out,
-    );
+    let mut tables = Tables {
+        one: &mut share1,
+        two: &mut share2,
+        three: &mut share3,
+        kinds: &mut kinds,
+    };
+    let mut lists = Lists {
+        one: &mut received1,
+        two: &mut received2,
+        three: &mut received3,
+        controller: &mut controller,
+    };
+    let length = session::pool::pool(file, &mut words, &mut tables, &mut lists, &mut out);
     rt.write_all(&out[..length])
 }
 

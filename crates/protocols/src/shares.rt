@@ -4,7 +4,7 @@ ghost use Rattle.protocols.specs.Printed as printed;
 
 use std::fmt;
 
-#[derive(Clone, Copy)]
+#[derive(Clone, Copy, Default)]
 pub struct Shares {
     pub one: u32,
     pub two: u32,

@@ -1,4 +1,6 @@
 // A session with lists of chosen lengths, all zero.
+use machine::lent::Tables;
+use protocols::lent::Lists;
 use session::pool::TEXT;
 use session::session::WORDS;
 use std::io;
@@ -40,18 +42,19 @@ pub(crate) fn print(out: &mut impl Write, file: &[u8], lent: Lending) -> io::Res
     let mut received3 = [0u32; 3584];
     let mut controller = [0u32; 3584];
     let mut text = [0u8; TEXT];
-    let length = session::pool::pool(
-        file,
-        front(&mut words, lent.words),
-        front(&mut share1, lent.entries),
-        front(&mut share2, lent.entries),
-        front(&mut share3, lent.entries),
-        front(&mut kinds, lent.kinds),
-        &mut received1,
-        &mut received2,
-        &mut received3,
-        front(&mut controller, lent.controller),
-        &mut text,
-    );
+    let mut tables = Tables {
+        one: front(&mut share1, lent.entries),
+        two: front(&mut share2, lent.entries),
+        three: front(&mut share3, lent.entries),
+        kinds: front(&mut kinds, lent.kinds),
+    };
+    let mut lists = Lists {
+        one: &mut received1,
+        two: &mut received2,
+        three: &mut received3,
+        controller: front(&mut controller, lent.controller),
+    };
+    let words = front(&mut words, lent.words);
+    let length = session::pool::pool(file, words, &mut tables, &mut lists, &mut text);
     out.write_all(&text[..length])
 }

@@ -5,6 +5,7 @@ use crate::{lists, print};
 use machine::code::Code;
 use machine::given::Given;
 use machine::row;
+use protocols::lent::Tapes;
 use protocols::place::{Drawn, Party, Place, Received};
 use protocols::shares::Shares;
 use std::io;
@@ -131,19 +132,16 @@ pub(crate) fn perform(
     generator: &mut Generator,
 ) -> Delivered {
     let provider = generator.words::<32>();
-    let tape1 = generator.words::<32>();
-    let tape2 = generator.words::<32>();
-    let tape3 = generator.words::<32>();
-    lists::perform(
-        code,
-        x,
-        place,
-        room,
-        front(&provider, lent.provider),
-        front(&tape1, lent.one),
-        front(&tape2, lent.two),
-        front(&tape3, lent.three),
-    )
+    let one = generator.words::<32>();
+    let two = generator.words::<32>();
+    let three = generator.words::<32>();
+    let tapes = Tapes {
+        provider: front(&provider, lent.provider),
+        one: front(&one, lent.one),
+        two: front(&two, lent.two),
+        three: front(&three, lent.three),
+    };
+    lists::perform(code, x, place, room, &tapes)
 }
 
 // The first tape that a protocol draws from. One that draws from none sends nothing.
@@ -168,12 +166,11 @@ pub(crate) fn printed(
     let case = generated(code, generator);
     let x = case.operands;
     let delivered = perform(code, x, case.place, WHOLE_TAPES, WHOLE_LISTS, generator);
-    let outcome = delivered.outcome;
     write!(out, "case {number} ")?;
-    print::case(out, code, x, outcome)?;
+    print::case(out, code, x, &delivered)?;
     writeln!(out)?;
     if first_tape(code).is_some() {
-        let place = outcome.place;
+        let place = delivered.done().place;
         writeln!(out, "  place {place}")?;
         print::lists(out, &delivered, false)?;
     }

@@ -49,9 +49,9 @@ fn received(h: u32, list: &[u32; 32]) -> u32 {
 }
 
 fn outcome(h: u32, delivered: &Delivered) -> u32 {
-    let outcome = delivered.outcome;
-    let h = shares(word(h, outcome.number), outcome.shares);
-    let h = place(h, outcome.place);
+    let done = delivered.done();
+    let h = shares(word(h, delivered.number()), done.shares);
+    let h = place(h, done.place);
     delivered.lists.iter().fold(h, |h, list| received(h, list))
 }
 

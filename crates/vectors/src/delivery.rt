@@ -36,11 +36,10 @@ fn line(
 ) -> io::Result<()> {
     let lent = short::cut(code, tape);
     let delivered = case::perform(code, x, short::place(), lent, room, &mut generator);
-    let outcome = delivered.outcome;
     let name = print::name(code);
-    let place = outcome.place;
+    let place = delivered.done().place;
     write!(out, "deliver {label} {name} room {room}")?;
-    print::outcome(out, outcome)?;
+    print::outcome(out, &delivered)?;
     writeln!(out, " place {place}")?;
     print::lists(out, &delivered, true)
 }

@@ -4,8 +4,11 @@ use crate::words;
 use machine::code::Code;
 use machine::given::Given;
 use machine::play;
-use protocols::outcome::Outcome;
+use machine::refusal::Refusal;
+use protocols::lent::{Lists, Tapes};
+use protocols::outcome::{Done, Shortage};
 use protocols::place::{Place, Received};
+use protocols::shares::Shares;
 use std::fmt;
 
 // Whose list it is.
@@ -48,11 +51,30 @@ impl fmt::Display for Receiver {
     }
 }
 
-// An outcome, and the lists as it leaves them, as RECEIVERS has them.
+// What a protocol answers from a place, and the lists as it leaves them, as RECEIVERS has them.
 #[derive(Clone, Copy)]
 pub struct Delivered {
-    pub outcome: Outcome,
+    place: Place,
+    outcome: Result<Done, Shortage>,
     pub lists: [[u32; 32]; 4],
+}
+
+impl Delivered {
+    // 0, or document 01's number.
+    pub(crate) fn number(&self) -> u32 {
+        match self.outcome {
+            Ok(_) => 0,
+            Err(shortage) => u32::from(Refusal::from(shortage)),
+        }
+    }
+
+    // The new shares and the moved place; or no shares, and the place as it was.
+    pub(crate) fn done(&self) -> Done {
+        self.outcome.unwrap_or(Done {
+            shares: Shares::default(),
+            place: self.place,
+        })
+    }
 }
 
 // The words of a list beforehand.
@@ -80,30 +102,21 @@ pub(crate) fn perform(
     x: Given,
     place: Place,
     room: Received,
-    provider: &[u32],
-    tape1: &[u32],
-    tape2: &[u32],
-    tape3: &[u32],
+    tapes: &Tapes,
 ) -> Delivered {
     let mut one = before();
     let mut two = before();
     let mut three = before();
     let mut controller = before();
-    let outcome = play::play(
-        code,
-        x.input,
-        x,
-        place,
-        provider,
-        tape1,
-        tape2,
-        tape3,
-        tail(&mut one, room.one),
-        tail(&mut two, room.two),
-        tail(&mut three, room.three),
-        tail(&mut controller, room.controller),
-    );
+    let mut tails = Lists {
+        one: tail(&mut one, room.one),
+        two: tail(&mut two, room.two),
+        three: tail(&mut three, room.three),
+        controller: tail(&mut controller, room.controller),
+    };
+    let outcome = play::play(code, x.input, x, place, tapes, &mut tails);
     Delivered {
+        place,
         outcome,
         lists: [one, two, three, controller],
     }

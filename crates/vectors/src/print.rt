@@ -3,7 +3,6 @@ use crate::lists;
 use crate::lists::{Delivered, RECEIVERS};
 use machine::code::Code;
 use machine::given::Given;
-use protocols::outcome::Outcome;
 use std::io;
 use std::io::Write;
 
@@ -36,17 +35,23 @@ fn operands(out: &mut impl Write, code: Code, x: Given) -> io::Result<()> {
 }
 
 // The outcome's number and shares.
-pub(crate) fn outcome(out: &mut impl Write, outcome: Outcome) -> io::Result<()> {
-    let Outcome { number, shares, .. } = outcome;
+pub(crate) fn outcome(out: &mut impl Write, delivered: &Delivered) -> io::Result<()> {
+    let number = delivered.number();
+    let shares = delivered.done().shares;
     write!(out, " number {number} shares {shares}")
 }
 
 // The protocol, its operands, and the outcome's number and shares.
-pub(crate) fn case(out: &mut impl Write, code: Code, x: Given, answer: Outcome) -> io::Result<()> {
+pub(crate) fn case(
+    out: &mut impl Write,
+    code: Code,
+    x: Given,
+    delivered: &Delivered,
+) -> io::Result<()> {
     let name = name(code);
     write!(out, "{name}")?;
     operands(out, code, x)?;
-    outcome(out, answer)
+    outcome(out, delivered)
 }
 
 // The words that each party receives, or its whole list.

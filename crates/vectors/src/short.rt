@@ -44,8 +44,8 @@ fn line(
 ) -> io::Result<()> {
     let delivered = case::perform(code, x, place(), cut(code, short), WHOLE_LISTS, generator);
     let name = print::name(code);
-    let number = delivered.outcome.number;
-    let place = delivered.outcome.place;
+    let number = delivered.number();
+    let place = delivered.done().place;
     write!(
         out,
         "short {tape} {name} number {number} place {place} words"

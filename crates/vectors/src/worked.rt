@@ -3,6 +3,7 @@ use crate::case::WHOLE_LISTS;
 use crate::{lists, print, words};
 use machine::code::Code;
 use machine::given::Given;
+use protocols::lent::Tapes;
 use protocols::place::Place;
 use protocols::shares::Shares;
 use std::io;
@@ -49,26 +50,30 @@ fn line(
     code: Code,
     x: Given,
     provider: &[u32],
-    tape1: &[u32],
-    tape2: &[u32],
-    tape3: &[u32],
+    one: &[u32],
+    two: &[u32],
+    three: &[u32],
 ) -> io::Result<()> {
-    let place = Place::default();
-    let delivered = lists::perform(code, x, place, WHOLE_LISTS, provider, tape1, tape2, tape3);
-    let outcome = delivered.outcome;
-    let value = value(code, outcome.shares);
+    let tapes = Tapes {
+        provider,
+        one,
+        two,
+        three,
+    };
+    let delivered = lists::perform(code, x, Place::default(), WHOLE_LISTS, &tapes);
+    let value = value(code, delivered.done().shares);
     write!(out, "{label} ")?;
-    print::case(out, code, x, outcome)?;
+    print::case(out, code, x, &delivered)?;
     writeln!(out, " value {value}")
 }
 
 // Tapes of numbers in a row, but for the first word of miner 1's.
 fn in_a_row(out: &mut impl Write, label: &str, code: Code, x: Given, first: u32) -> io::Result<()> {
-    let mut tape1 = words::in_a_row::<18>(1);
-    let tape2 = words::in_a_row::<12>(20);
-    let tape3 = words::in_a_row::<12>(40);
-    tape1[0] = first;
-    line(out, label, code, x, &[], &tape1, &tape2, &tape3)
+    let mut one = words::in_a_row::<18>(1);
+    let two = words::in_a_row::<12>(20);
+    let three = words::in_a_row::<12>(40);
+    one[0] = first;
+    line(out, label, code, x, &[], &one, &two, &three)
 }
 
 // M1 to M4.
