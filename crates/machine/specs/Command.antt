@@ -1,5 +1,5 @@
 -- One command: its answer, and all lent lists after it. (01, 'Handles, tapes and places')
-use Rattle.std.specs.Prelude.{ℕ, zero, suc, cond, List, set, get_or}
+use Rattle.std.specs.Prelude.{ℕ, zero, suc, cond, List, set, get_or, Result, Ok, Err}
 use Rattle.std.proofs.lemmas.List.Edits.{sets}
 use Rattle.protocols.specs.declared.place.Place.{Place}
 use Rattle.protocols.specs.declared.shares.Shares.{Shares}
@@ -10,7 +10,10 @@ use Rattle.machine.specs.declared.code.Command.{Command}
 use Rattle.machine.specs.declared.code.Code.{Code}
 use Rattle.machine.specs.declared.row.Row.{Row}
 use Rattle.machine.specs.declared.given.Given.{Given}
+use Rattle.machine.specs.declared.answer.Accepted as code
 use Rattle.machine.specs.declared.answer.Answer.{Answer}
+use Rattle.machine.specs.declared.refusal.Refusal.{Refusal}
+use Rattle.machine.specs.Refusal.{number}
 use Rattle.machine.specs.Table.{kind_number, row, opens, moved}
 use Rattle.machine.specs.Lent.{Tables, tables, Lent, lent, sizes, shares_at}
 use Rattle.machine.specs.Verdict.{Verdict, Accepted, Refused, verdict}
@@ -19,6 +22,11 @@ use Rattle.machine.specs.Steps.{protocol}
 -- 'A command answers 0 or a refusal number, the place record, and the opened word'
 abbrev pub answer : ℕ → Place → ℕ → Answer
 answer r p w = record { number = r; place = p; opened = w }
+
+-- what the code answers, with 01's number and values for each case, from the place p
+abbrev pub answer_of : Place → Result code.Accepted Refusal → Answer
+answer_of p (Ok a) = answer 0 a.place a.opened
+answer_of p (Err r) = answer (number r) p 0
 
 pub record Outcome : Type 0 where
   pub answer : Answer

@@ -100,7 +100,11 @@ fn finish(
 {
     let number = done.number;
     if number != 0 {
-        return Answer::untouched(number, place);
+        return Answer {
+            number,
+            place,
+            opened: 0,
+        };
     }
     let at = place.handles;
     let shares = done.shares;

@@ -2,9 +2,17 @@
 ghost use Rattle.std.specs.Prelude.{◌≡◌};
 ghost use Rattle.machine.specs.Command as spec;
 
+use super::refusal::Refusal;
 use protocols::place::Place;
 
-// 0 or the number of the refusal, the place record, and the opened word.
+// What an accepted command leaves: the moved place record, and the opened word, 0 unless an open was accepted.
+#[derive(Clone, Copy)]
+pub struct Accepted {
+    pub place: Place,
+    pub opened: u32,
+}
+
+// 0 or the number of the refusal, the place record, and the opened word. (A number and no Result: the C interface hands it back as it is.)
 #[repr(C)]
 #[derive(Clone, Copy)]
 pub struct Answer {
@@ -14,14 +22,21 @@ pub struct Answer {
 }
 
 impl Answer {
-    // The place as it was, and nothing opened.
-    pub fn untouched(number: u32, place: Place) -> Answer
-        ensures { result ≡ spec.answer number place 0 }
+    // From the place where the command began: a refused one leaves it as it was, and opens nothing.
+    pub fn of(place: Place, answered: Result<Accepted, Refusal>) -> Answer
+        ensures { result ≡ spec.answer_of place answered }
     {
-        Answer {
-            number,
-            place,
-            opened: 0,
+        match answered {
+            Ok(accepted) => Answer {
+                number: 0,
+                place: accepted.place,
+                opened: accepted.opened,
+            },
+            Err(refusal) => Answer {
+                number: u32::from(refusal),
+                place,
+                opened: 0,
+            },
         }
     }
 }

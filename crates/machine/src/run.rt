@@ -6,9 +6,10 @@ ghost use Rattle.machine.specs.Verdict.{sound, check};
 ghost use Rattle.machine.specs.Command.{answer};
 ghost use Rattle.machine.specs.Run.{commands_of, run_to_refusal, ended, end_of};
 
-use super::answer::{Answer, Run};
+use super::answer::{Accepted, Answer, Run};
 use super::code::Command;
 use super::lent::Sizes;
+use super::refusal::Refusal;
 use super::{judge, step};
 use protocols::place::Place;
 
@@ -16,15 +17,17 @@ use protocols::place::Place;
 fn refuse_first(words: usize, start: Place) -> Run
     ensures { (result.done ≡ 0) × (result.last ≡ answer (check 4 (nat_lt words 3) 0) start 0) }
 {
-    if words < 3 {
-        return Run {
-            done: 0,
-            last: Answer::untouched(0, start),
-        };
-    }
+    let answered = if words < 3 {
+        Ok(Accepted {
+            place: start,
+            opened: 0,
+        })
+    } else {
+        Err(Refusal::LentUnsoundly)
+    };
     Run {
         done: 0,
-        last: Answer::untouched(4, start),
+        last: Answer::of(start, answered),
     }
 }
 
@@ -49,27 +52,44 @@ fn run_soundly(
     requires { sound start (sizes (lent (tables share1.old share2.old share3.old) kinds.old inputs.now (tapes provider.now tape1.now tape2.now tape3.now) (lists received1.old received2.old received3.old controller.old))) kinds.old ≡ true }
     ensures { ended result (lent (tables share1.new share2.new share3.new) kinds.new inputs.now (tapes provider.now tape1.now tape2.now tape3.now) (lists received1.new received2.new received3.new controller.new)) ≡ end_of start (run_to_refusal 5 (commands_of commands.now) start (lent (tables share1.old share2.old share3.old) kinds.old inputs.now (tapes provider.now tape1.now tape2.now tape3.now) (lists received1.old received2.old received3.old controller.old))) }
 {
-    let mut last = Answer::untouched(0, start);
-    let mut done: usize = 0;
-    let mut at: usize = 0;
-    while at + 2 < commands.len() {
-        let c = Command {
-            code: commands[at],
-            a: commands[at + 1],
-            b: commands[at + 2],
-        };
-        last = step::step(
-            c, last.place, share1, share2, share3, kinds, inputs, provider, tape1, tape2, tape3,
-            received1, received2, received3, controller,
+    let mut last = Accepted {
+        place: start,
+        opened: 0,
+    };
+    let (each, _) = commands.as_chunks::<3>();
+    for (done, words) in each.iter().enumerate() {
+        let [code, a, b] = *words;
+        let answered = step::step(
+            Command { code, a, b },
+            last.place,
+            share1,
+            share2,
+            share3,
+            kinds,
+            inputs,
+            provider,
+            tape1,
+            tape2,
+            tape3,
+            received1,
+            received2,
+            received3,
+            controller,
         );
-        let refused = last.number != 0;
-        if refused {
-            return Run { done, last };
-        }
-        done += 1;
-        at += 3;
+        last = match answered {
+            Ok(accepted) => accepted,
+            Err(refusal) => {
+                return Run {
+                    done,
+                    last: Answer::of(last.place, Err(refusal)),
+                };
+            }
+        };
     }
-    Run { done, last }
+    Run {
+        done: each.len(),
+        last: Answer::of(start, Ok(last)),
+    }
 }
 
 // The commands in order, three words each. (`&*`: so the compiler hands a list's pointer and length over in place of its address.)

@@ -1,11 +1,13 @@
 -- Lists that are read in threes.
-use Prim.Native.Nat.{ℕ, suc, ◌+◌, ◌≤◌, ◌<◌}
-use mathlib.Core.Path.{◌≡◌, refl}
-use mathlib.Core.List.{List, [], ◌∷◌}
+use Prim.Native.Nat.{ℕ, suc, ◌+◌, ◌/◌, ◌≤◌, ◌<◌}
+use mathlib.Core.Path.{◌≡◌, refl, ap}
+use mathlib.Core.List.{List, [], ◌∷◌, map}
 use native.Mathlib.Numerals.{add-one, add-two, add-three}
 use native.Mathlib.Omega.{arith}
 use lib.ListN.{length, get_or, drop, length-drop}
 use lib.Seq.{drop-cons}
+use Rattle.std.specs.Simd.{first_chunks}
+use Rattle.machine.specs.declared.code.Command.{Command}
 use Rattle.machine.specs.Table.{command}
 use Rattle.machine.specs.Run.{commands_of}
 
@@ -24,6 +26,21 @@ commands_none [] h = refl
 commands_none (x ∷ []) h = refl
 commands_none (x ∷ y ∷ []) h = refl
 commands_none (x ∷ y ∷ z ∷ l) h = let w : ⊥ = omega arith in absurd w
+
+-- a command's three words
+abbrev pub of_words : List ℕ → Command
+of_words w = command (get_or w 0 0) (get_or w 1 0) (get_or w 2 0)
+
+three_more : (n : ℕ) → suc (suc (suc n)) / 3 ≡ suc (n / 3)
+three_more n = omega arith
+
+-- three words each, as the code cuts them
+pub commands_cut : (l : List ℕ) → commands_of l ≡ map of_words (first_chunks 3 (length l / 3) l)
+unfolding commands_of
+commands_cut [] = refl
+commands_cut (x ∷ []) = refl
+commands_cut (x ∷ y ∷ []) = refl
+commands_cut (x ∷ y ∷ z ∷ l) = rw (three_more (length l)) (ap (λ (cs : List Command). command x y z ∷ cs) (commands_cut l))
 
 -- three words are one command
 pub commands-one : (code a b : ℕ) → commands_of (code ∷ a ∷ b ∷ []) ≡ command code a b ∷ []

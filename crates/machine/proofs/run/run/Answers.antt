@@ -5,7 +5,7 @@ use Rattle.machine.proofs.run.run.Goals as goal
 
 pub returns-then-unsound : goal.returns-then-unsound
 returns-then-unsound c =
-    run_refused_first c.args.commands.now c.args.start _ (rw c.of-sizes.ensures at (sym c.is_sound-unsound.ensures ∙ c.if-unsound.true))
+    run_refused_first c.args.start _ (rw c.of-sizes.ensures at (sym c.is_sound-unsound.ensures ∙ c.if-unsound.true)) c.args.commands.now
     c.refuse_first.result c.refuse_first.ensures
 
 pub run_soundly-requires : goal.run_soundly-requires

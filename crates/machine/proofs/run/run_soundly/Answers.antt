@@ -1,45 +1,37 @@
 -- `machine::run::run_soundly` meets its contract: a turn of the loop is a turn of the run.
-use Rattle.std.proofs.Common.{◌∙◌, arith}
-use Rattle.machine.specs.Lent.{Lent}
-use Rattle.machine.proofs.Laws.RunTurns.{held, start-sound, run-start, start-place, run_turn, run_stop, run_sound, run_end}
+use Rattle.std.proofs.Common.{◌≡◌, length, refl, ◌∙◌, arith}
+use Rattle.machine.specs.Command.{answer}
+use Rattle.machine.proofs.Laws.Tested.{numbered}
+use Rattle.machine.proofs.Laws.RunTurns.{still-whole, turn-accepted, turn-refused, turn-sound, turns_end}
 use Rattle.machine.proofs.run.run_soundly.Goals as goal
 
-pub loop-at-init : goal.loop-at-init
-loop-at-init c =
-    let a = c.args in
-    let begun = c.untouched-last in
-    let first : Lent =
-    held a.share1.now a.share2.now a.share3.now a.kinds.now a.inputs.now a.provider.now a.tape1.now a.tape2.now a.tape3.now a.received1.now
-    a.received2.now a.received3.now a.controller.now in
+pub loop-done-init : goal.loop-done-init
+loop-done-init c = record {
+  stays_sound = c.requires;
+  comes_to_the_whole = still-whole c.args.commands.now _ c.args.start _ c.as_chunks.ensures.front;
+}
+
+pub step-answered-requires : goal.step-answered-requires
+step-answered-requires c = c.loop-done.invariant.stays_sound
+
+pub returns-in-Err : goal.returns-in-Err
+returns-in-Err c =
+    let l = c.loop-done in
+    rw c.of.ensures
+    (turn-refused _ l.done (answer 0 l.last.place l.last.opened) _ c.loop-done-test.true _ c.in-Err.ensures (λ e. omega (arith, e, numbered c.in-Err.refusal))
+    ∙ l.invariant.comes_to_the_whole)
+
+pub loop-done-preserved : goal.loop-done-preserved
+loop-done-preserved c =
+    let l = c.loop-done in
+    let last = answer 0 l.last.place l.last.opened in
     record {
-      in_range = omega arith;
-      counted = omega arith;
-      stays_sound = start-sound a.start first begun.result begun.ensures c.requires;
-      comes_to_the_whole =
-          run-start a.commands.now a.start first begun.result begun.ensures ∙ start-place a.commands.now a.start first begun.result begun.ensures;
-    }
-
-pub step-last-requires : goal.step-last-requires
-step-last-requires c = c.loop-at.invariant.stays_sound
-
-pub returns-then-refused : goal.returns-then-refused
-returns-then-refused c =
-    let l = c.loop-at in
-    run_stop c.args.commands.now l.at l.done l.last _ c.loop-at-test.true _ c.step-last.ensures c.if-refused.true ∙ l.invariant.comes_to_the_whole
-
-pub loop-at-preserved : goal.loop-at-preserved
-loop-at-preserved c =
-    let l = c.loop-at in
-    record {
-      in_range = omega arith;
-      counted = omega arith;
-      stays_sound = run_sound c.args.commands.now l.at l.done l.last _ c.loop-at-test.true _ c.step-last.ensures l.invariant.stays_sound;
-      comes_to_the_whole =
-          run_turn c.args.commands.now l.at l.done l.last _ c.loop-at-test.true _ c.step-last.ensures c.if-refused.false
-          ∙ l.invariant.comes_to_the_whole;
+      stays_sound = turn-sound _ l.done last _ c.loop-done-test.true _ c.in-Ok.ensures l.invariant.stays_sound;
+      comes_to_the_whole = turn-accepted _ l.done last _ c.loop-done-test.true _ c.in-Ok.ensures refl ∙ l.invariant.comes_to_the_whole;
     }
 
 pub returns : goal.returns
 returns c =
-    let l = c.loop-at in
-    run_end c.args.commands.now l.at l.done l.last _ (omega arith) ∙ l.invariant.comes_to_the_whole
+    let l = c.loop-done in
+    let e : length c.as_chunks.result.0.now ≡ l.done = omega arith in
+    rw (c.of-2.ensures, e) (turns_end c.as_chunks.result.0.now l.done (answer 0 l.last.place l.last.opened) _ (omega arith) ∙ l.invariant.comes_to_the_whole)

@@ -1,25 +1,31 @@
 -- `machine::step::step` meets its contract.
+use Rattle.std.proofs.Common.{sym, ◌∙◌}
+use Rattle.std.proofs.lemmas.Result.{err_from_is_err_and}
 use Rattle.machine.proofs.Laws.Tested.{kinds-long, begun}
-use Rattle.machine.proofs.Laws.Step.{unknown_is, refused_is, passed_is}
+use Rattle.machine.proofs.Laws.Step.{unknown_is, refused_is, told_is}
 use Rattle.machine.proofs.step.step.Goals as goal
 
-pub returns-in-Err : goal.returns-in-Err
-returns-in-Err c =
-    unknown_is c.args.c c.args.place _ c.requires c.try_from.ensures c.in-Err.is (rw c.from.ensures at c.untouched.ensures)
+pub returns-in_err-code : goal.returns-in_err-code
+returns-in_err-code c =
+    let e = err_from_is_err_and c.from_residual.result c.from_residual.ensures.1 in
+    rw (e.1, e.2) (unknown_is c.args.c c.args.place _ c.requires c.in_err-code.field-0.0 (sym c.try_from.ensures ∙ c.in_err-code.was))
 
 pub fields_and_room-requires : goal.fields_and_room-requires
-fields_and_room-requires c =
-    kinds-long c.args.place _ c.requires
+fields_and_room-requires c = kinds-long c.args.place _ c.requires
 
-pub returns-in-Err-fields_and_room : goal.returns-in-Err-fields_and_room
-returns-in-Err-fields_and_room c =
-    refused_is c.args.c c.args.place _ c.requires _ c.try_from.ensures c.in-Ok.is c.in-Err-fields_and_room.refusal c.in-Err-fields_and_room.ensures
-    (rw c.from-in-Err-fields_and_room.ensures at c.untouched-in-Err-fields_and_room.ensures)
+pub returns-in_err-fields_and_room : goal.returns-in_err-fields_and_room
+returns-in_err-fields_and_room c =
+    let r = c.from_residual-in_err-fields_and_room in
+    let e = err_from_is_err_and r.result r.ensures.1 in
+    rw (e.1, e.2)
+    (refused_is c.args.c c.args.place _ c.requires c.in_ok-code.code (sym c.try_from.ensures ∙ c.in_ok-code.was) c.in_err-fields_and_room.field-0.0
+    c.in_err-fields_and_room.ensures)
 
-pub accept-requires : goal.accept-requires
-accept-requires c =
-    begun _ c.args.c c.args.place _ c.requires c.in_default.ensures
+pub accept-answer-requires : goal.accept-answer-requires
+accept-answer-requires c = begun _ c.args.c c.args.place _ c.requires c.in_ok-fields_and_room.ensures
 
 pub returns : goal.returns
 returns c =
-    passed_is c.args.c c.args.place _ c.requires _ c.try_from.ensures c.in-Ok.is c.in_default.ensures c.accept.ensures
+    let t = c.told.ensures in
+    told_is c.args.c c.args.place _ c.requires c.in_ok-code.code (sym c.try_from.ensures ∙ c.in_ok-code.was) c.in_ok-fields_and_room.ensures
+    c.accept-answer.ensures t.accepted t.spent t.full
