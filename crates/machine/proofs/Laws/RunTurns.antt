@@ -1,14 +1,16 @@
 -- The run of a list of commands, a command a turn: what was done, the last answer, and what is lent.
-use Rattle.std.specs.Simd.{first_chunks}
-use Rattle.std.proofs.Common.{◌*◌, ◌/◌}
-use Prim.Native.Nat.{ℕ, suc, ◌+◌, ◌≤◌, ◌<◌}
+use Prim.Native.Nat.{ℕ, suc, ◌+◌, ◌/◌, ◌≤◌, ◌<◌}
 use mathlib.Core.Path.{◌≡◌, refl, sym, ap, ◌∙◌}
 use mathlib.Core.Bool.{Bool, true, false, cond}
-use mathlib.Core.List.{List, [], ◌∷◌}
+use mathlib.Core.List.{List, [], ◌∷◌, map}
 use native.Mathlib.Omega.{arith}
 use lib.ListN.{length, get_or, drop}
 use lib.Dec.{eqb, ltb}
-use borrow.Author.Tests.{eq-eqb, ne_eqb, eqb-true, ltb-true, ltb-false}
+use lib.Seq.{drop-cons}
+use Rattle.std.proofs.lemmas.List.{drop_all}
+use native.Mathlib.Numerals.{add-one}
+use Rattle.std.specs.Simd.{first_chunks}
+use borrow.Author.Tests.{eq-eqb, ne_eqb, eqb-true, le-ltb}
 use Rattle.protocols.specs.declared.place.Place.{Place}
 use Rattle.protocols.specs.Place.{tapes, lists}
 use Rattle.machine.specs.declared.code.Command.{Command}
@@ -20,13 +22,8 @@ use Rattle.machine.specs.Verdict.{sound, check, verdict}
 use Rattle.machine.specs.Command.{Outcome, answer, outcome, command}
 use Rattle.machine.specs.Run.{Ran, ran, before, run_to_refusal, commands_of, accepted, refused_with, last_of, Ended, ended, end_of}
 use Rattle.machine.proofs.Laws.Runs.{to_refusal_none, to_refusal-first}
-use Rattle.machine.proofs.Laws.Threes.{nth, nth_is, commands-one, commands_end, commands_turn}
+use Rattle.machine.proofs.Laws.Threes.{of_words, commands_cut, commands-one}
 use Rattle.machine.proofs.Laws.Sound.{sound-after}
-
--- what the commands are lent, list by list
-abbrev pub held : List ℕ → List ℕ → List ℕ → List ℕ → List ℕ → List ℕ → List ℕ → List ℕ → List ℕ → List ℕ → List ℕ → List ℕ → List ℕ → Lent
-held share1 share2 share3 kinds inputs provider tape1 tape2 tape3 received1 received2 received3 controller =
-    lent (tables share1 share2 share3) kinds inputs (tapes provider tape1 tape2 tape3) (lists received1 received2 received3 controller)
 
 -- the end of a run after k commands done before it, the last of them with the answer a
 abbrev pub end_after : ℕ → Answer → Ran → Ended
@@ -34,17 +31,6 @@ end_after k a r = ended (record { done = k + accepted r.answers; last = last_of 
 
 none_before : (p : Place) (r : Ran) → end_after 0 (answer 0 p 0) r ≡ end_of p r
 none_before p r = let e : 0 + accepted r.answers ≡ accepted r.answers = omega arith in rw e
-
--- at the start: no command was done, and the answer a has the place p
-module _ (cs : List ℕ) (p : Place) (l : Lent) (a : Answer) (e : a ≡ answer 0 p 0) where
-  pub start-place : end_of a.place (run_to_refusal 5 (commands_of cs) a.place l) ≡ end_of p (run_to_refusal 5 (commands_of cs) p l)
-  start-place = rw e
-
-  pub run-start : end_after 0 a (run_to_refusal 5 (commands_of cs) a.place l) ≡ end_of a.place (run_to_refusal 5 (commands_of cs) a.place l)
-  run-start = rw e (none_before p (run_to_refusal 5 (commands_of cs) p l))
-
-pub start-sound : (p : Place) (l : Lent) (a : Answer) → a ≡ answer 0 p 0 → sound p (sizes l) l.kinds ≡ true → sound a.place (sizes l) l.kinds ≡ true
-start-sound p l a e s = rw e s
 
 one_more_lem : (k a : ℕ) → k + suc a ≡ k + 1 + a
 one_more_lem k a = omega arith
@@ -61,92 +47,78 @@ after-refused : (k : ℕ) (a : Answer) (o : Outcome) → ¬ (o.answer.number ≡
 unfolding accepted last_of
 after-refused k a o e = rw (ne_eqb o.answer.number 0 e, none_more k)
 
-module _ (cs : List ℕ) (at k : ℕ) (a : Answer) (l : Lent) where
-  module _ (h : at + 2 < length cs) (o : Outcome) (eo : o ≡ command 5 (asked (get_or cs at 0) (get_or cs (at + 1) 0) (get_or cs (at + 2) 0)) a.place l) where
-    abbrev rest : Ran
-    rest = run_to_refusal 5 (commands_of (drop (at + 3) cs)) o.answer.place o.lent
+-- the first of some commands, after k done, from the answer a
+module _ (c : Command) (cs : List Command) (k : ℕ) (a : Answer) (l : Lent) (o : Outcome) (eo : o ≡ command 5 c a.place l) where
+  first : run_to_refusal 5 (c ∷ cs) a.place l
+      ≡ cond (eqb o.answer.number 0) (before o (run_to_refusal 5 cs o.answer.place o.lent)) (before o (ran [] o.answer.place o.lent))
+  first = rw eo (to_refusal-first 5 c cs a.place l)
 
-    first : run_to_refusal 5 (commands_of (drop at cs)) a.place l
-        ≡ cond (eqb o.answer.number 0) (before o rest) (before o (ran [] o.answer.place o.lent))
-    first =
-        rw (commands_turn cs at h, eo)
-        (to_refusal-first 5 (asked (get_or cs at 0) (get_or cs (at + 1) 0) (get_or cs (at + 2) 0)) (commands_of (drop (at + 3) cs)) a.place l)
+  -- accepted, it is one more done
+  first-accepted : o.answer.number ≡ 0
+      → end_after (k + 1) o.answer (run_to_refusal 5 cs o.answer.place o.lent) ≡ end_after k a (run_to_refusal 5 (c ∷ cs) a.place l)
+  first-accepted e = rw (first, eq-eqb o.answer.number 0 e) (sym (after-accepted k a o (run_to_refusal 5 cs o.answer.place o.lent) e))
 
-    -- an accepted command is one more done
-    pub run_turn : o.answer.number ≡ 0 → end_after (k + 1) o.answer rest ≡ end_after k a (run_to_refusal 5 (commands_of (drop at cs)) a.place l)
-    run_turn e = rw (first, eq-eqb o.answer.number 0 e) (sym (after-accepted k a o rest e))
+  -- refused, it is the last
+  first-refused : ¬ (o.answer.number ≡ 0) → ended (record { done = k; last = o.answer }) o.lent ≡ end_after k a (run_to_refusal 5 (c ∷ cs) a.place l)
+  first-refused e = rw (first, ne_eqb o.answer.number 0 e) (sym (after-refused k a o e))
 
-    -- a refused command is the last
-    pub run_stop : ¬ (o.answer.number ≡ 0)
-        → ended (record { done = k; last = o.answer }) o.lent ≡ end_after k a (run_to_refusal 5 (commands_of (drop at cs)) a.place l)
-    run_stop e = rw (first, ne_eqb o.answer.number 0 e) (sym (after-refused k a o e))
+-- where no command is left, the last answer is a
+none_left : (k : ℕ) (a : Answer) (l : Lent) → ended (record { done = k; last = a }) l ≡ end_after k a (run_to_refusal 5 [] a.place l)
+unfolding accepted last_of
+none_left k a l = rw (to_refusal_none, none_more k)
+
+-- ---- the commands cut in threes, of which k are done and a was the last answer
+
+-- what is still to be run
+abbrev pub still : List (List ℕ) → ℕ → Answer → Lent → Ran
+still cut k a l = run_to_refusal 5 (map of_words (drop k cut)) a.place l
+
+-- at the start it is the whole run
+pub still-whole : (words : List ℕ) (cut : List (List ℕ)) (p : Place) (l : Lent) → cut ≡ first_chunks 3 (length words / 3) words
+    → end_after 0 (answer 0 p 0) (still cut 0 (answer 0 p 0) l) ≡ end_of p (run_to_refusal 5 (commands_of words) p l)
+still-whole words cut p l e = rw (e, commands_cut words) (none_before p (run_to_refusal 5 (map of_words (first_chunks 3 (length words / 3) words)) p l))
+
+module _ (cut : List (List ℕ)) (k : ℕ) (a : Answer) (l : Lent) where
+  module _ (h : k < length cut) (o : Outcome) (eo : o ≡ command 5 (of_words (get_or cut k [])) a.place l) where
+    next : drop k cut ≡ get_or cut k [] ∷ drop (k + 1) cut
+    next = rw add-one (drop-cons cut k [] h)
+
+    pub turn-accepted : o.answer.number ≡ 0 → end_after (k + 1) o.answer (still cut (k + 1) o.answer o.lent) ≡ end_after k a (still cut k a l)
+    turn-accepted e = rw next (first-accepted (of_words (get_or cut k [])) (map of_words (drop (k + 1) cut)) k a l o eo e)
+
+    pub turn-refused : ¬ (o.answer.number ≡ 0) → ended (record { done = k; last = o.answer }) o.lent ≡ end_after k a (still cut k a l)
+    turn-refused e = rw next (first-refused (of_words (get_or cut k [])) (map of_words (drop (k + 1) cut)) k a l o eo e)
 
     -- number 4 does not apply after the command
-    pub run_sound : sound a.place (sizes l) l.kinds ≡ true → sound o.answer.place (sizes o.lent) o.lent.kinds ≡ true
-    run_sound s = rw eo (sound-after 5 (asked (get_or cs at 0) (get_or cs (at + 1) 0) (get_or cs (at + 2) 0)) a.place l s)
+    pub turn-sound : sound a.place (sizes l) l.kinds ≡ true → sound o.answer.place (sizes o.lent) o.lent.kinds ≡ true
+    turn-sound s = rw eo (sound-after 5 (of_words (get_or cut k [])) a.place l s)
 
-  -- where no command is left, the last answer is a
-  pub run_end : length cs ≤ at + 2 → ended (record { done = k; last = a }) l ≡ end_after k a (run_to_refusal 5 (commands_of (drop at cs)) a.place l)
-  unfolding accepted last_of
-  run_end h = rw (commands_end cs at h, to_refusal_none, none_more k)
+  -- where all are done, the last answer is a
+  pub turns_end : length cut ≤ k → ended (record { done = k; last = a }) l ≡ end_after k a (still cut k a l)
+  turns_end h = rw (drop_all k cut h) (none_left k a l)
 
--- ---- a turn takes the next three words
-
--- after k commands, the last of them with the answer 0, on what is lent now
-module _ (cs : List ℕ) (ws : List (List ℕ)) (k : ℕ) (p : Place) (w : ℕ) (l : Lent) (three : ws ≡ first_chunks 3 (length cs / 3) cs) where
-  module _ (h : k < length cs / 3) (o : Outcome) (eo : o ≡ command 5 (nth ws k) p l) where
-    in_range : 3 * k + 2 < length cs
-    in_range = omega (arith, h)
-
-    asked_is : o ≡ command 5 (asked (get_or cs (3 * k) 0) (get_or cs (3 * k + 1) 0) (get_or cs (3 * k + 2) 0)) p l
-    asked_is = eo ∙ ap (λ (c : Command). command 5 c p l) (nth_is cs ws k three h)
-
-    pub turn_goes_on : o.answer.number ≡ 0
-        → end_after (k + 1) o.answer (run_to_refusal 5 (commands_of (drop (3 * (k + 1)) cs)) o.answer.place o.lent)
-        ≡ end_after k (answer 0 p w) (run_to_refusal 5 (commands_of (drop (3 * k) cs)) p l)
-    turn_goes_on e =
-        let n : 3 * (k + 1) ≡ 3 * k + 3 = omega arith in
-        rw n (run_turn cs (3 * k) k (answer 0 p w) l in_range o asked_is e)
-
-    pub turn_stops : ¬ (o.answer.number ≡ 0)
-        → ended (record { done = k; last = o.answer }) o.lent ≡ end_after k (answer 0 p w) (run_to_refusal 5 (commands_of (drop (3 * k) cs)) p l)
-    turn_stops e = run_stop cs (3 * k) k (answer 0 p w) l in_range o asked_is e
-
-    pub turn_sound : sound p (sizes l) l.kinds ≡ true → sound o.answer.place (sizes o.lent) o.lent.kinds ≡ true
-    turn_sound s = run_sound cs (3 * k) k (answer 0 p w) l in_range o asked_is s
-
-  pub turns_end : length cs / 3 ≡ k
-      → ended (record { done = k; last = answer 0 p w }) l ≡ end_after k (answer 0 p w) (run_to_refusal 5 (commands_of (drop (3 * k) cs)) p l)
-  turns_end e = run_end cs (3 * k) k (answer 0 p w) l (omega (arith, e))
-
--- ---- a run of none, and one where number 4 applies
+-- ---- where number 4 applies
 
 refused_unsound : (n : ℕ) (c : Command) (p : Place) (l : Lent) → sound p (sizes l) l.kinds ≡ false → command n c p l ≡ outcome (answer 4 p 0) l
 unfolding command verdict
 refused_unsound n c p l e = rw e
 
-module _ (cs : List ℕ) (p : Place) (l : Lent) where
-  from_start : end_after 0 (answer 0 p 0) (run_to_refusal 5 (commands_of (drop 0 cs)) p l) ≡ end_of p (run_to_refusal 5 (commands_of cs) p l)
-  from_start = none_before p (run_to_refusal 5 (commands_of cs) p l)
+module _ (p : Place) (l : Lent) (s : sound p (sizes l) l.kinds ≡ false) where
+  -- the first command is refused, if there is one
+  at_first : (words : List ℕ) → ended (record { done = 0; last = answer (check 4 (ltb (length words) 3) 0) p 0 }) l
+      ≡ end_of p (run_to_refusal 5 (commands_of words) p l)
+  unfolding commands_of
+  at_first [] = none_left 0 (answer 0 p 0) l ∙ none_before p (run_to_refusal 5 [] p l)
+  at_first (x ∷ []) = none_left 0 (answer 0 p 0) l ∙ none_before p (run_to_refusal 5 [] p l)
+  at_first (x ∷ y ∷ []) = none_left 0 (answer 0 p 0) l ∙ none_before p (run_to_refusal 5 [] p l)
+  at_first (x ∷ y ∷ z ∷ r) =
+      rw (le-ltb (suc (suc (suc (length r)))) 3 (omega arith))
+      (first-refused (asked x y z) (commands_of r) 0 (answer 0 p 0) l (outcome (answer 4 p 0) l) (sym (refused_unsound 5 (asked x y z) p l s)) (λ f. omega arith)
+      ∙ none_before p (run_to_refusal 5 (asked x y z ∷ commands_of r) p l))
 
-  pub run_none : length cs < 3 → (a : Answer) → a ≡ answer 0 p 0 → ended (record { done = 0; last = a }) l ≡ end_of p (run_to_refusal 5 (commands_of cs) p l)
-  run_none h a e = rw e (run_end cs 0 0 (answer 0 p 0) l (omega arith) ∙ from_start)
-
-  pub run_unsound : ¬ (length cs < 3) → sound p (sizes l) l.kinds ≡ false → (a : Answer) → a ≡ answer 4 p 0
-      → ended (record { done = 0; last = a }) l ≡ end_of p (run_to_refusal 5 (commands_of cs) p l)
-  run_unsound h s a e =
-      rw e
-      (run_stop cs 0 0 (answer 0 p 0) l (omega arith) (outcome (answer 4 p 0) l) (sym (refused_unsound 5 _ p l s)) (λ f. omega arith) ∙ from_start)
-
-  -- refused at the first command, if there is one
-  pub run_refused_first : sound p (sizes l) l.kinds ≡ false → (r : Run) → (r.done ≡ 0) × (r.last ≡ answer (check 4 (ltb (length cs) 3) 0) p 0)
-      → ended r l ≡ end_of p (run_to_refusal 5 (commands_of cs) p l)
-  run_refused_first s r e = (λ i. ended (record { done = e.0 i; last = e.1 i }) l) ∙ by_test (ltb (length cs) 3) refl
-    where
-      by_test : (t : Bool) → ltb (length cs) 3 ≡ t
-          → ended (record { done = 0; last = answer (check 4 t 0) p 0 }) l ≡ end_of p (run_to_refusal 5 (commands_of cs) p l)
-      by_test true e = run_none (ltb-true (length cs) 3 e) (answer 0 p 0) refl
-      by_test false e = let some : 3 ≤ length cs = ltb-false (length cs) 3 e in run_unsound (λ h. omega (arith, h, some)) s (answer 4 p 0) refl
+  pub run_refused_first : (words : List ℕ) (r : Run) → (r.done ≡ 0) × (r.last ≡ answer (check 4 (ltb (length words) 3) 0) p 0)
+      → ended r l ≡ end_of p (run_to_refusal 5 (commands_of words) p l)
+  run_refused_first words r e = (λ i. ended (record { done = e.0 i; last = e.1 i }) l) ∙ at_first words
 
 -- ---- a run of one
 

@@ -1,13 +1,12 @@
 -- Lists that are read in threes.
-use Rattle.std.proofs.Common.{◌/◌, add-zero, get_or-take, get_or-drop, drop-drop}
-use Rattle.std.specs.Simd.{first_chunks}
-use Prim.Native.Nat.{ℕ, zero, suc, ◌+◌, ◌*◌, ◌≤◌, ◌<◌}
-use mathlib.Core.Path.{◌≡◌, refl, ap, ◌∙◌}
-use mathlib.Core.List.{List, [], ◌∷◌}
+use Prim.Native.Nat.{ℕ, suc, ◌+◌, ◌/◌, ◌≤◌, ◌<◌}
+use mathlib.Core.Path.{◌≡◌, refl, ap}
+use mathlib.Core.List.{List, [], ◌∷◌, map}
 use native.Mathlib.Numerals.{add-one, add-two, add-three}
 use native.Mathlib.Omega.{arith}
-use lib.ListN.{length, get_or, take, drop, length-drop}
+use lib.ListN.{length, get_or, drop, length-drop}
 use lib.Seq.{drop-cons}
+use Rattle.std.specs.Simd.{first_chunks}
 use Rattle.machine.specs.declared.code.Command.{Command}
 use Rattle.machine.specs.Table.{command}
 use Rattle.machine.specs.Run.{commands_of}
@@ -28,6 +27,21 @@ commands_none (x ∷ []) h = refl
 commands_none (x ∷ y ∷ []) h = refl
 commands_none (x ∷ y ∷ z ∷ l) h = let w : ⊥ = omega arith in absurd w
 
+-- a command's three words
+abbrev pub of_words : List ℕ → Command
+of_words w = command (get_or w 0 0) (get_or w 1 0) (get_or w 2 0)
+
+three_more : (n : ℕ) → suc (suc (suc n)) / 3 ≡ suc (n / 3)
+three_more n = omega arith
+
+-- three words each, as the code cuts them
+pub commands_cut : (l : List ℕ) → commands_of l ≡ map of_words (first_chunks 3 (length l / 3) l)
+unfolding commands_of
+commands_cut [] = refl
+commands_cut (x ∷ []) = refl
+commands_cut (x ∷ y ∷ []) = refl
+commands_cut (x ∷ y ∷ z ∷ l) = rw (three_more (length l)) (ap (λ (cs : List Command). command x y z ∷ cs) (commands_cut l))
+
 -- three words are one command
 pub commands-one : (code a b : ℕ) → commands_of (code ∷ a ∷ b ∷ []) ≡ command code a b ∷ []
 unfolding commands_of
@@ -41,28 +55,3 @@ module _ (cs : List ℕ) (i : ℕ) where
       → commands_of (drop i cs) ≡ command (get_or cs i 0) (get_or cs (i + 1) 0) (get_or cs (i + 2) 0) ∷ commands_of (drop (i + 3) cs)
   unfolding commands_of
   commands_turn h = rw (drop-three cs i h)
-
--- ---- three words at a time
-
--- chunk k of n is the three words from 3 * k on
-pub chunk : (n k : ℕ) (l : List ℕ) → k < n → get_or (first_chunks 3 n l) k [] ≡ take 3 (drop (3 * k) l)
-chunk zero k l h = absurd (omega (arith, h))
-chunk (suc n) zero l h = refl
-chunk (suc n) (suc k) l h =
-    let e : 3 + 3 * k ≡ 3 * suc k = omega arith in
-    chunk n k (drop 3 l) (omega (arith, h)) ∙ ap (take 3) (drop-drop (3 * k) 3 l ∙ ap (λ (i : ℕ). drop i l) e)
-
--- as a command
-abbrev pub nth : List (List ℕ) → ℕ → Command
-nth ws k = let w = get_or ws k [] in command (get_or w 0 0) (get_or w 1 0) (get_or w 2 0)
-
-pub nth_is : (l : List ℕ) (ws : List (List ℕ)) (k : ℕ) → ws ≡ first_chunks 3 (length l / 3) l → k < length l / 3
-    → nth ws k ≡ command (get_or l (3 * k) 0) (get_or l (3 * k + 1) 0) (get_or l (3 * k + 2) 0)
-nth_is l ws k e h =
-    λ i. command ((word 0 (omega arith) ∙ ap (λ (j : ℕ). get_or l j 0) (add-zero (3 * k))) i) (word 1 (omega arith) i) (word 2 (omega arith) i)
-  where
-    w : get_or ws k [] ≡ take 3 (drop (3 * k) l)
-    w = ap (λ (x : List (List ℕ)). get_or x k []) e ∙ chunk (length l / 3) k l h
-
-    word : (j : ℕ) → j < 3 → get_or (get_or ws k []) j 0 ≡ get_or l (3 * k + j) 0
-    word j b = ap (λ (v : List ℕ). get_or v j 0) w ∙ (get_or-take 3 (drop (3 * k) l) j 0 b ∙ get_or-drop (3 * k) l j 0)

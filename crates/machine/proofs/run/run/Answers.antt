@@ -5,8 +5,8 @@ use Rattle.machine.proofs.run.run.Goals as goal
 
 pub returns-then-unsound-clause-done : goal.returns-then-unsound-clause-done
 returns-then-unsound-clause-done c =
-    run_refused_first c.args.commands.now c.args.start _
-    (rw (c.of-sizes.ensures, c.kinds.ensures) at (sym c.is_sound-unsound.ensures ∙ c.if-unsound.true)) c.refuse_first.result c.refuse_first.ensures
+    run_refused_first c.args.start _ (rw (c.of-sizes.ensures, c.kinds.ensures) at (sym c.is_sound-unsound.ensures ∙ c.if-unsound.true))
+    c.args.commands.now c.refuse_first.result c.refuse_first.ensures
 
 pub run_soundly-requires : goal.run_soundly-requires
 run_soundly-requires c = rw (c.of-sizes.ensures, c.kinds.ensures) at (sym c.is_sound-unsound.ensures ∙ c.if-unsound.false)
