@@ -13,7 +13,7 @@ pub enum Party {
 
 // Words drawn from each tape.
 #[repr(C)]
-#[derive(Clone, Copy)]
+#[derive(Clone, Copy, Default)]
 pub struct Drawn {
     pub provider: usize,
     pub one: usize,
@@ -23,7 +23,7 @@ pub struct Drawn {
 
 // Words in each received list.
 #[repr(C)]
-#[derive(Clone, Copy)]
+#[derive(Clone, Copy, Default)]
 pub struct Received {
     pub one: usize,
     pub two: usize,
@@ -33,7 +33,7 @@ pub struct Received {
 
 // The place record: filled handles, inputs used, words drawn, words received.
 #[repr(C)]
-#[derive(Clone, Copy)]
+#[derive(Clone, Copy, Default)]
 pub struct Place {
     pub handles: usize,
     pub inputs: usize,

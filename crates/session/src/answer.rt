@@ -5,7 +5,7 @@ ghost use Rattle.session.specs.Session as spec;
 ghost use Rattle.machine.specs.Refusal.{number};
 
 use machine::refusal::Refusal;
-use protocols::place::{Drawn, Place, Received};
+use protocols::place::Place;
 
 // Commands done, the place record, and 0 or the refusal number: a number, and no Result, since C reads it.
 #[repr(C)]
@@ -20,22 +20,7 @@ pub struct SessionAnswer {
 pub(crate) fn empty_place() -> Place
     ensures { result ≡ empty }
 {
-    Place {
-        handles: 0,
-        inputs: 0,
-        drawn: Drawn {
-            provider: 0,
-            one: 0,
-            two: 0,
-            three: 0,
-        },
-        received: Received {
-            one: 0,
-            two: 0,
-            three: 0,
-            controller: 0,
-        },
-    }
+    Place::default()
 }
 
 // Of a session that is turned down as a whole.
