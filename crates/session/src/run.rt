@@ -23,11 +23,7 @@ fn body(words: &[u32], k: usize) -> &[u32]
 }
 
 // The run of a file's words.
-pub(crate) fn run_words(
-    words: &[u32],
-    tables: &mut Tables,
-    lists: &mut Lists,
-) -> SessionAnswer
+pub(crate) fn run_words(words: &[u32], tables: &mut Tables, lists: &mut Lists) -> SessionAnswer
     requires { Bodies words.now }
     ensures same_tables { SameTables tables.old tables.new }
     ensures same_lists { Same lists.old lists.new }
