@@ -1,5 +1,5 @@
 -- Draws by every miner at once: the words of a block with the moved place, or spent. (01, 'Handles, tapes and places')
-use Rattle.std.specs.Prelude.{ℕ, Option}
+use Rattle.std.specs.Prelude.{Option}
 use Rattle.protocols.specs.declared.place.Place.{Place}
 use Rattle.protocols.specs.declared.shares.Shares.{Shares}
 use Rattle.protocols.specs.Place.{Tapes, counts, words, advance, tape_number, draw_case, enough, block}

@@ -1,5 +1,5 @@
 -- What the code's steps come to: a command from its row on.
-use Rattle.std.specs.Prelude.{Option, Some, None}
+use Rattle.std.specs.Prelude.{Option, Some}
 use Prim.Native.Nat.{ℕ, zero, suc, ◌+◌, ◌-◌, ◌≤◌, ◌<◌, ◌^◌}
 use mathlib.Core.Path.{◌≡◌, refl, sym, ap, subst, ◌∙◌}
 use mathlib.Core.Bool.{true, ◌&&◌}
@@ -11,7 +11,7 @@ use Rattle.protocols.specs.Outcome.{Outcome}
 use Rattle.protocols.specs.declared.place.Place.{Place}
 use Rattle.protocols.specs.declared.place.Received.{Received}
 use Rattle.protocols.specs.declared.shares.Shares.{Shares}
-use Rattle.protocols.specs.Shares.{one, two, three, shares}
+use Rattle.protocols.specs.Shares.{one, two, three}
 use Rattle.protocols.specs.Place.{Lists, lists, Receiver, miner, controller, list, counts, advance}
 use Rattle.protocols.specs.Protocol.{perform}
 use Rattle.protocols.specs.Counts.{received, due}

@@ -12,12 +12,11 @@ use native.Mathlib.Numerals.{add-one}
 use Rattle.std.specs.Simd.{first_chunks}
 use borrow.Author.Tests.{eq-eqb, ne_eqb, eqb-true, le-ltb}
 use Rattle.protocols.specs.declared.place.Place.{Place}
-use Rattle.protocols.specs.Place.{tapes, lists}
 use Rattle.machine.specs.declared.code.Command.{Command}
 use Rattle.machine.specs.declared.answer.Answer.{Answer}
 use Rattle.machine.specs.declared.answer.Run.{Run}
 use Rattle.machine.specs.Table.{command as asked}
-use Rattle.machine.specs.Lent.{tables, Lent, lent, sizes}
+use Rattle.machine.specs.Lent.{Lent, sizes}
 use Rattle.machine.specs.Verdict.{sound, check, verdict}
 use Rattle.machine.specs.Command.{Outcome, answer, outcome, command}
 use Rattle.machine.specs.Run.{Ran, ran, before, run_to_refusal, commands_of, accepted, refused_with, last_of, Ended, ended, end_of}

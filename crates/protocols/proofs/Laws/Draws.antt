@@ -1,6 +1,6 @@
 -- Draws: one word at a time is the same as a block, and a block after a block is one block.
 use Rattle.std.specs.Prelude.{Option, Some, None}
-use Rattle.std.proofs.Common.{◌≡◌, ℕ, zero, suc, ◌+◌, ◌-◌, ◌<◌, ◌≤◌, Bool, true, false, ◌&&◌, leb, List, [], ◌++◌, length, get_or, take, drop, refl, sym, ap, ◌∙◌, append-nil, add-zero, add_assoc, arith, length-drop, drop_of_length-le, length-take-le, get_or-drop, take_all, get_or-take, take-take, drop-drop, take-add, drop_at, ltb-false, ltb-true, le-leb, leb-false, leb-true}
+use Rattle.std.proofs.Common.{◌≡◌, ℕ, zero, suc, ◌+◌, ◌-◌, ◌<◌, ◌≤◌, Bool, true, false, ◌&&◌, leb, List, [], ◌++◌, length, get_or, take, drop, refl, sym, ap, ◌∙◌, append-nil, add-zero, add_assoc, arith, length-drop, drop_of_length-le, length-take-le, get_or-drop, take_all, get_or-take, take-take, drop-drop, take-add, drop_at, le-leb, leb-false, leb-true}
 use borrow.Author.Tests.{lt-leb}
 use native.Mathlib.Decide.{dec_le}
 use lib.Seq.{take-nil}

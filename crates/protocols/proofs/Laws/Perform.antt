@@ -1,5 +1,5 @@
 -- Protocols on lent tapes in general: by their draws, one after the other, in rounds, and their outcomes.
-use Rattle.std.proofs.Common.{◌≡◌, ℕ, zero, suc, ◌+◌, ◌-◌, ◌≤◌, Bool, true, false, cond, ◌&&◌, leb, List, length, take, drop, get_or, refl, ap, ◌∙◌, ap₂, append-nil, add-zero, add-suc, add-one, arith, length-append}
+use Rattle.std.proofs.Common.{◌≡◌, ℕ, zero, suc, ◌+◌, ◌-◌, ◌≤◌, Bool, true, false, cond, ◌&&◌, leb, List, length, take, drop, refl, ap, ◌∙◌, ap₂, append-nil, add-zero, add-suc, add-one, arith, length-append}
 use Rattle.protocols.specs.declared.place.Party.{Party}
 use Rattle.protocols.specs.declared.place.Party.TheVariants.{Provider, One, Two, Three}
 use Rattle.protocols.specs.Outcome.{finished, delivered, delivery, fronts, puts}

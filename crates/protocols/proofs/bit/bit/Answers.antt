@@ -1,7 +1,5 @@
 -- `protocols::bit::bit` meets its contract.
-use Rattle.std.proofs.Common.{refl}
 use Rattle.protocols.specs.Word.{modulus}
-use Rattle.protocols.specs.Bit.{bit}
 use Rattle.protocols.specs.Lent.{tapes_of}
 use Rattle.protocols.proofs.Laws.Lent.{bit_whole}
 use Rattle.protocols.proofs.bit.bit.Goals as goal

@@ -1,7 +1,6 @@
 -- `Lists::pass` meets its contract.
-use Rattle.std.proofs.Common.{◌≡◌, ℕ, ◌+◌, List, set, take, length, refl, ap, ◌∙◌, take_all, arith}
+use Rattle.std.proofs.Common.{◌≡◌, List, take, refl, ap, ◌∙◌, take_all}
 use Rattle.protocols.specs.declared.shares.Shares.{Shares}
-use Rattle.protocols.specs.Place.{Lists, lists}
 use Rattle.protocols.specs.Counts.{received}
 use Rattle.protocols.specs.Outcome.{puts}
 use Rattle.protocols.specs.Lent.{lists_of, to_next_in_order}

@@ -1,5 +1,5 @@
 -- The loop of `Lists::pass`: the same lists, with each miner's first k words put into them.
-use Rattle.std.proofs.Common.{◌≡◌, ◌-◌, take, length}
+use Rattle.std.proofs.Common.{◌≡◌, take}
 use Rattle.protocols.specs.Counts.{received}
 use Rattle.protocols.specs.Outcome.{puts}
 use Rattle.protocols.specs.Lent.{lists_of, Same, to_next_in_order}

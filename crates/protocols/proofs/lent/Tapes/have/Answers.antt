@@ -1,6 +1,4 @@
 -- `protocols::lent::Tapes::have` meets its contract.
-use Rattle.protocols.specs.Place.{counts}
-use Rattle.protocols.specs.Lent.{tapes_of}
 use Rattle.protocols.proofs.Laws.Draws.{enough_miners}
 use Rattle.protocols.proofs.lent.Tapes.have.Goals as goal
 
