@@ -61,6 +61,7 @@ fn counted(p: Place, x: Row) -> Place
 }
 
 // A ring value that the miners made alone becomes the new handle's.
+#[inline(always)]
 fn store_value(shares: Shares, place: Place, tables: &mut Tables) -> Accepted
     requires { place.handles + 1 < 2 ^ 64 }
     ensures same { SameTables tables.old tables.new }
@@ -78,6 +79,7 @@ fn store_value(shares: Shares, place: Place, tables: &mut Tables) -> Accepted
 }
 
 // What a protocol made becomes the new handle's, if one is due; what it turned down changes nothing.
+#[inline(always)]
 fn finish(
     x: Row,
     place: Place,
@@ -97,6 +99,7 @@ fn finish(
 }
 
 // On lists that are lent one by one, as the parts of lent lists are.
+#[inline(always)]
 fn play_on(
     code: Code,
     c: Command,
@@ -120,6 +123,7 @@ fn play_on(
 }
 
 // The protocol's words go into the unfilled part of each list, its shares become the new handle's.
+#[inline(always)]
 pub(crate) fn accept(
     code: Code,
     c: Command,

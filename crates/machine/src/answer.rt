@@ -23,6 +23,7 @@ pub struct Answer {
 
 impl Answer {
     // From the place where the command began: a refused one leaves it as it was, and opens nothing.
+    #[inline(always)]
     pub fn of(place: Place, answered: Result<Accepted, Refusal>) -> Answer
         ensures { result ≡ spec.answer_of place answered }
     {

@@ -16,6 +16,7 @@ use protocols::shares::Shares;
 use protocols::{below, bit, bits, equal, local, multiply, open, reshare, store};
 
 // What the miners make alone, each from its own shares, unless the command has a joint protocol.
+#[inline(always)]
 pub(crate) fn make_alone(code: Code, b: u32, g: Given) -> Option<Shares>
     ensures { result ≡ spec.alone code b g }
 {
@@ -38,6 +39,7 @@ pub(crate) fn make_alone(code: Code, b: u32, g: Given) -> Option<Shares>
 }
 
 // On the drawn words that follow the place; received words go to the front of each list.
+#[inline(always)]
 pub fn play(
     code: Code,
     b: u32,

@@ -15,6 +15,7 @@ use protocols::lent::{Lists, Tapes};
 use protocols::place::Place;
 
 // Judge, then compute and write; a refused command writes nothing.
+#[inline(always)]
 pub(crate) fn step(
     c: Command,
     place: Place,

@@ -27,6 +27,7 @@ pub struct Lists<'a> {
 
 impl Tapes<'_> {
     // Whether the miners' tapes have so many words left at the place.
+    #[inline(always)]
     pub(crate) fn have(&self, place: Place, one: usize, two: usize, three: usize) -> bool
         ensures { result ≡ enough (counts 0 one two three) place (tapes_of self.now) }
     {
@@ -46,6 +47,7 @@ impl Lists<'_> {
     }
 
     // Whether the lists have room for so many words.
+    #[inline(always)]
     pub(crate) fn have_room(&self, one: usize, two: usize, three: usize, controller: usize) -> bool
         ensures { result ≡ holds (lists_of self.now) (received one two three controller) }
     {

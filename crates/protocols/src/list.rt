@@ -9,6 +9,7 @@ use super::lent::Lists;
 use super::shares::Shares;
 
 // Puts words at a place of a list.
+#[inline(always)]
 pub(crate) fn put(list: &mut [u32], at: usize, words: &[u32])
     requires { at + length words.now ≤ length list.old }
     ensures { list.new ≡ sets list.old at words.now }
@@ -18,6 +19,7 @@ pub(crate) fn put(list: &mut [u32], at: usize, words: &[u32])
 
 impl Lists<'_> {
     // Words of each miner to the next, in order: into list 1 from `first` on, into lists 2 and 3 from `at` on.
+    #[inline(always)]
     pub(crate) fn pass(&mut self, first: usize, at: usize, words: &[Shares])
         requires { (first + length words.now ≤ length self.old.one.now) × (at + length words.now ≤ length self.old.two.now) × (at + length words.now ≤ length self.old.three.now) }
         ensures same { Same self.old self.new }

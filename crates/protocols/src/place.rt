@@ -73,6 +73,7 @@ impl Drawn {
 }
 
 // What is left of a tape after so many words.
+#[inline(always)]
 fn rest(tape: &[u32], used: usize) -> &[u32]
     ensures { result.now ≡ drop used tape.now }
 {
@@ -81,6 +82,7 @@ fn rest(tape: &[u32], used: usize) -> &[u32]
 
 impl Place {
     // The next N words of a party's tape with the moved place, or nothing where the tape is spent.
+    #[inline(always)]
     pub fn draw<'a, const N: usize>(
         self,
         party: Party,
