@@ -48,6 +48,7 @@ fn fits_limits(file: &[u8]) -> bool
 }
 
 // Whether no body is over its limit, and the commands are in threes.
+#[tactic(auto, using(crate::proofs::Laws::Contents::commands_count))]
 fn is_within(file: &[u8]) -> bool
     requires { 48 ≤ length file.now }
     ensures { result ≡ spec.is_within file.now }

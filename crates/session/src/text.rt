@@ -54,6 +54,7 @@ impl<'a> Text<'a> {
         self.put_bytes(digits.format(n).as_bytes());
     }
 
+    #[tactic(auto, using(crate::proofs::Laws::Text::spaced_front))]
     fn put_numbers(&mut self, numbers: &[u64])
         requires { self.old.len + 21 * length numbers.now ≤ length self.old.out.now }
         ensures added { Adds self.old (spaced numbers.now) self.new }

@@ -10,6 +10,7 @@ use lib.Seq.{get_or-take, length-take-le}
 use lib.Dec.{eqb, leb}
 use borrow.Author.Tests.{eqb-true, leb-true, eq-eqb, ne_eqb, le-leb, lt-leb}
 use native.Mathlib.Decide.{dec_le}
+use Rattle.std.proofs.lemmas.Bool.Decides.{nat_tests}
 use Rattle.std.specs.Bool.{IsTrue}
 use Rattle.std.specs.Simd.{first_chunks}
 use Rattle.std.proofs.lemmas.Bool.{false_from_ne_true}
@@ -87,11 +88,7 @@ each_within (m ∷ ms) f (suc n) b h g e =
 
 -- which tests held, where the number is 0
 all_hold : (a b c d : Bool) → ◌≡◌ {A = ℕ} (cond a (cond b (cond c (cond d 0 4) 3) 2) 1) 0 → (a ≡ true) × (b ≡ true) × (c ≡ true) × (d ≡ true)
-all_hold true true true true h = (refl, refl, refl, refl)
-all_hold true true true false h = let z : ⊥ = omega arith in absurd z
-all_hold true true false d h = let z : ⊥ = omega arith in absurd z
-all_hold true false c d h = let z : ⊥ = omega arith in absurd z
-all_hold false b c d h = let z : ⊥ = omega arith in absurd z
+all_hold a b c d h = (grind (arith, nat_tests), grind (arith, nat_tests), grind (arith, nat_tests), grind (arith, nat_tests))
 
 pub record Accepted (f : List ℕ) (lent : Bool) : Type 0 where
   pub whole : is_whole f ≡ true
@@ -126,7 +123,7 @@ two-suc-add k = omega arith
 -- each body ends within the file
 body_ends : (k at end : ℕ) (l : List ℕ) → 2 * k + 1 < length l → chained at l end ≡ true → start_of l k + count_of l k ≤ end
 unfolding chained
-body_ends k at end [] h e = let z : ⊥ = omega arith in absurd z
+body_ends k at end [] h e = absurd (omega arith)
 body_ends k at end (s ∷ []) h e = absurd (false≢true e)
 body_ends zero at end (s ∷ n ∷ r) h e = chained-le (s + n) end r (both (eqb s at) (chained (s + n) r end) e).1
 body_ends (suc k) at end (s ∷ n ∷ r) h e =
@@ -141,7 +138,7 @@ room : (ms : List ℕ) (at end : ℕ) (l : List ℕ) → length l ≡ 2 * length
 unfolding chained within total
 room [] at end [] h e w = let q = eqb-true at end e in omega arith
 room [] at end (s ∷ []) h e w = absurd (false≢true e)
-room [] at end (s ∷ n ∷ r) h e w = let z : ⊥ = omega arith in absurd z
+room [] at end (s ∷ n ∷ r) h e w = absurd (omega arith)
 room (m ∷ ms) at end [] h e w = absurd (false≢true w)
 room (m ∷ ms) at end (s ∷ []) h e w = absurd (false≢true w)
 room (m ∷ ms) at end (s ∷ n ∷ r) h e w =
@@ -173,16 +170,9 @@ bodies f a =
 pub part : (l : List ℕ) (a n : ℕ) → take (a + n - a) (drop a l) ≡ take n (drop a l)
 part l a n = let e : a + n - a ≡ n = omega arith in rw e
 
-pub count-commands : (f : List ℕ) → 48 ≤ length f → word_at f 4 ≡ count_of (words_of f) 0
-count-commands f h = sym (get_or-words_of f 1 (omega arith))
+pub commands_count : (f : List ℕ) → 48 ≤ length f → word_at f 4 ≡ count_of (words_of f) 0
+commands_count f h = sym (get_or-words_of f 1 (omega arith))
 
 pub at_most_4 : (f : List ℕ) (lent : Bool) → tested f lent ≤ 4
 unfolding tested
-at_most_4 f lent = by_tests (is_whole f) (is_chained f) (is_within f) lent
-  where
-    by_tests : (a b c d : Bool) → cond a (cond b (cond c (cond d 0 4) 3) 2) 1 ≤ 4
-    by_tests true true true true = omega arith
-    by_tests true true true false = omega arith
-    by_tests true true false d = omega arith
-    by_tests true false c d = omega arith
-    by_tests false b c d = omega arith
+at_most_4 f lent = grind (arith, nat_tests)

