@@ -7,6 +7,3 @@ pub returns-then-unsound : goal.returns-then-unsound
 returns-then-unsound c =
     run_refused_first c.args.start _ (rw c.of-sizes.ensures at (sym c.is_sound-unsound.ensures ∙ c.if-unsound.true)) c.args.commands.now
     c.refuse_first.result c.refuse_first.ensures
-
-pub run_soundly-requires : goal.run_soundly-requires
-run_soundly-requires c = rw c.of-sizes.ensures at (sym c.is_sound-unsound.ensures ∙ c.if-unsound.false)

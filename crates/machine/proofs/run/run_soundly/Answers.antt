@@ -11,9 +11,6 @@ loop-done-init c = record {
   comes_to_the_whole = still-whole c.args.commands.now _ c.args.start _ c.as_chunks.ensures.front;
 }
 
-pub step-answered-requires : goal.step-answered-requires
-step-answered-requires c = c.loop-done.invariant.stays_sound
-
 pub returns-in-Err : goal.returns-in-Err
 returns-in-Err c =
     let l = c.loop-done in
