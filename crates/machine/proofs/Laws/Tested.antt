@@ -8,9 +8,7 @@ use borrow.Author.Tests.{leb-true}
 use lib.ListN.{length}
 use lib.Dec.{leb, lit≤}
 use Rattle.protocols.specs.declared.place.Place.{Place}
-use Rattle.protocols.specs.Shares.{one}
 use Rattle.protocols.specs.Counts.{due}
-use Rattle.protocols.proofs.Laws.Deliveries.{both}
 use Rattle.machine.specs.declared.code.Code.{Code}
 use Rattle.machine.specs.declared.code.Command.{Command}
 use Rattle.machine.specs.declared.lent.Sizes.{Sizes}
@@ -24,7 +22,6 @@ use Rattle.machine.specs.Verdict.{Verdict, Refused, check, told, sound, unused_z
 use Rattle.machine.specs.Accept.{Begun}
 use Rattle.machine.proofs.Laws.Accepted.{every_list_lem, refusal_passed, room, places_within}
 use Rattle.machine.proofs.Laws.Entries.{due-list_lengths}
-use Rattle.machine.proofs.Laws.Judge.{same-lengths}
 
 -- ---- a number, and the checks after it
 
@@ -94,12 +91,6 @@ pub judged_passed : (n : ℕ) (x : Row) (c : Command) (p : Place) (z : Sizes) (k
 judged_passed n x c p z kinds next = judged-told n x c p z kinds next
 
 -- ---- where number 4 does not apply
-
--- every filled handle has a kind
-pub kinds-long : (p : Place) (l : Lent) → sound p (sizes l) l.kinds ≡ true → p.handles ≤ length l.kinds
-kinds-long p l e =
-    omega
-    (arith, leb-true p.handles (length l.tables.one) (places_within p (sizes l) l.kinds e).0, same-lengths l (both _ _ e).0 one)
 
 -- where no number from 6 to 11 applies either, what the command does fits the lists
 pub begun : (x : Code) (c : Command) (p : Place) (l : Lent) → sound p (sizes l) l.kinds ≡ true

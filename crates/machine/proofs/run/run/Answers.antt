@@ -7,9 +7,3 @@ pub returns-then-unsound-clause-done : goal.returns-then-unsound-clause-done
 returns-then-unsound-clause-done c =
     run_refused_first c.args.start _ (rw (c.of-sizes.ensures, c.kinds.ensures) at (sym c.is_sound-unsound.ensures ∙ c.if-unsound.true))
     c.args.commands.now c.refuse_first.result c.refuse_first.ensures
-
-pub run_soundly-requires : goal.run_soundly-requires
-run_soundly-requires c = rw (c.of-sizes.ensures, c.kinds.ensures) at (sym c.is_sound-unsound.ensures ∙ c.if-unsound.false)
-
-pub returns-clause-done : goal.returns-clause-done
-returns-clause-done c = c.run_soundly.ensures.done

@@ -18,9 +18,6 @@ loop-done-init c = record {
   comes_to_the_whole = still-whole c.args.commands.now _ c.args.start _ c.as_chunks.ensures.front;
 }
 
-pub step-answered-requires : goal.step-answered-requires
-step-answered-requires c = c.loop-done.invariant.stays_sound
-
 pub returns-in-Err-clause-done : goal.returns-in-Err-clause-done
 returns-in-Err-clause-done c =
     let l = c.loop-done in

@@ -1,7 +1,7 @@
 -- `machine::step::step` meets its contract.
 use Rattle.std.proofs.Common.{refl}
 use Rattle.std.proofs.lemmas.Result.{err_from_is_err_and}
-use Rattle.machine.proofs.Laws.Tested.{kinds-long, begun}
+use Rattle.machine.proofs.Laws.Tested.{begun}
 use Rattle.machine.proofs.Laws.Step.{unknown_is, refused_is, passed_is}
 use Rattle.machine.proofs.step.step.Goals as goal
 
@@ -9,9 +9,6 @@ pub returns-in_err-code-clause-done : goal.returns-in_err-code-clause-done
 returns-in_err-code-clause-done c =
     let p = err_from_is_err_and c.from_residual.result c.from_residual.ensures.1 in
     rw (p.1, p.2) (unknown_is c.args.c c.args.place _ c.requires c.try_from.ensures c.in_err-code.was refl)
-
-pub fields_and_room-requires : goal.fields_and_room-requires
-fields_and_room-requires c = rw c.kinds.ensures (kinds-long c.args.place _ c.requires)
 
 pub returns-in_err-fields_and_room-clause-done : goal.returns-in_err-fields_and_room-clause-done
 returns-in_err-fields_and_room-clause-done c =
