@@ -7,13 +7,12 @@ ghost use Rattle.machine.specs.Command as spec;
 
 use super::answer::Answer;
 use super::code::Command;
-use super::lent::{Sizes, Tables};
-use super::refusal::Refusal;
-use super::{judge, step};
+use super::lent::Tables;
+use super::run;
 use protocols::lent::{Lists, Tapes};
 use protocols::place::Place;
 
-// Number 4 is tested first, for a run once before its first command.
+// A run of one command.
 pub fn command(
     c: Command,
     place: Place,
@@ -26,9 +25,6 @@ pub fn command(
     ensures same_lists { Same lists.old lists.new }
     ensures done { outcome result (lent_of tables.new inputs.now tapes.now lists.new) ≡ spec.command 5 c place (lent_of tables.old inputs.now tapes.now lists.old) }
 {
-    let sizes = Sizes::of(tables, inputs, tapes, lists);
-    if !judge::is_sound(place, sizes, tables.kinds()) {
-        return Answer::of(place, Err(Refusal::LentUnsoundly));
-    }
-    Answer::of(place, step::step(c, place, tables, inputs, tapes, lists))
+    let run = run::run(&[c.code, c.a, c.b], place, tables, inputs, tapes, lists);
+    run.last
 }

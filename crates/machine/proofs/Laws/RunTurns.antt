@@ -98,7 +98,7 @@ module _ (cut : List (List ℕ)) (k : ℕ) (a : Answer) (l : Lent) where
 
 -- ---- where number 4 applies
 
-pub refused_unsound : (n : ℕ) (c : Command) (p : Place) (l : Lent) → sound p (sizes l) l.kinds ≡ false → command n c p l ≡ outcome (answer 4 p 0) l
+refused_unsound : (n : ℕ) (c : Command) (p : Place) (l : Lent) → sound p (sizes l) l.kinds ≡ false → command n c p l ≡ outcome (answer 4 p 0) l
 unfolding command verdict
 refused_unsound n c p l e = rw e
 
