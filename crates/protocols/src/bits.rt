@@ -53,6 +53,7 @@ static CLEAR: [u32; 5] = [
     0x0000_ffff,
 ];
 
+// (Rounds are counted by a number, and each function of one asks that it is below 5: a type for it would ask the same of its maker.)
 // Each source's bit at every position that takes from it in round k.
 fn spread(k: u32, x: u32) -> u32
     requires { k < 5 }

@@ -42,6 +42,7 @@ static OTHERS: [u32; 5] = [
     0xffff_fffe,
 ];
 
+// (A round is a number below 5, as in Bits.)
 // A miner's p after round k, from its own masked share and the previous miner's.
 fn fold_share(k: u32, p: u32, x: u32) -> u32
     requires { k < 5 }
