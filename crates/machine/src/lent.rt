@@ -7,7 +7,8 @@ use protocols::lent::{Lists, Tapes};
 use protocols::place::{Drawn, Received};
 use protocols::shares::Shares;
 
-// Three share tables, and the kinds of their entries.
+// Three share tables, and the kinds of their entries. (Tables, inputs, tapes and received lists are no one struct: of a struct within a
+// lent struct the check does not tell what its lists hold after a call, and sessions are lent tables and lists alone.)
 #[derive(Drop)]
 pub struct Tables<'a> {
     pub one: &'a mut [u32],

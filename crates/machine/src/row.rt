@@ -31,6 +31,7 @@ pub struct Row {
     pub drawn: Drawn,
 }
 
+// (This and the next are no trait of ours: they name the fields of two records.)
 fn received(one: usize, two: usize, three: usize, controller: usize) -> Received
     ensures { result ≡ received one two three controller }
 {

@@ -42,6 +42,7 @@ static OTHERS: [u32; 5] = [
     0xffff_fffe,
 ];
 
+// (A round is a number below 5, as in Bits.)
 // A miner's p after round k, from its own masked share and the previous miner's.
 fn fold_share(k: u32, p: u32, x: u32) -> u32
     requires { k < 5 }
@@ -59,11 +60,9 @@ fn folded(k: u32, p: Shares, q: Shares) -> Folding
     ensures { result ≡ spec.folded (width 5) k p q }
 {
     Folding {
-        p: Shares {
-            one: fold_share(k, p.one, p.three),
-            two: fold_share(k, p.two, p.one),
-            three: fold_share(k, p.three, p.two),
-        },
+        p: p.zip(p.previous(), |own, previous| {
+            fold_share(k, own, previous)
+        }),
         q,
     }
 }

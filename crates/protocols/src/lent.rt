@@ -16,7 +16,8 @@ pub struct Tapes<'a> {
     pub three: &'a [u32],
 }
 
-// Four lists of received words, or what is unfilled of them.
+// Four lists of received words, or what is unfilled of them. (That they stay the same lists is a clause of each function that is lent
+// them, `Same`: the check tells what a list holds after a call only by it.)
 #[derive(Drop)]
 pub struct Lists<'a> {
     pub one: &'a mut [u32],

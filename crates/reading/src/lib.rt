@@ -18,6 +18,7 @@ pub fn read_whole<R: Read>(from: &mut R, buffer: &mut [u8]) -> io::Result<usize>
     ensures no_room { buffer.old ≡ [] → result ≡ Ok 0 }
 {
     let mut done = 0;
+    // A `while`, since how much a read gives is known only after it.
     while done < buffer.len() {
         let more = from.read(&mut buffer[done..])?;
         if more == 0 {
