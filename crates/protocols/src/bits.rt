@@ -1,4 +1,4 @@
-// Bits.
+// Bits. (A round is a number, and each function of one asks that it is below 5: a type for it would ask the same of its maker.)
 ghost use Rattle.std.specs.Prelude.{◌≡◌, ◌+◌, ◌*◌, ◌<◌, ◌≤◌, true, [], ◌∷◌, length};
 ghost use Rattle.protocols.specs.Word.{modulus, width};
 ghost use Rattle.protocols.specs.Place.{tapes, lists, enough, to_next, to_two_three, ◌followed_by◌};
@@ -53,7 +53,6 @@ static CLEAR: [u32; 5] = [
     0x0000_ffff,
 ];
 
-// (Rounds are counted by a number, and each function of one asks that it is below 5: a type for it would ask the same of its maker.)
 // Each source's bit at every position that takes from it in round k.
 fn spread(k: u32, x: u32) -> u32
     requires { k < 5 }

@@ -1,4 +1,4 @@
-// Equal.
+// Equal. (A round is a number below 5, as in Bits.)
 ghost use Rattle.std.specs.Prelude.{◌≡◌, ◌+◌, ◌*◌, ◌<◌, ◌≤◌, true, [], ◌∷◌, length};
 ghost use Rattle.protocols.specs.Word.{modulus, width};
 ghost use Rattle.protocols.specs.Shares.{operands};
@@ -42,7 +42,6 @@ static OTHERS: [u32; 5] = [
     0xffff_fffe,
 ];
 
-// (A round is a number below 5, as in Bits.)
 // A miner's p after round k, from its own masked share and the previous miner's.
 fn fold_share(k: u32, p: u32, x: u32) -> u32
     requires { k < 5 }

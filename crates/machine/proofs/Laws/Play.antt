@@ -1,4 +1,5 @@
--- A protocol that is lent only the tapes that it draws from.
+-- What is lent to a protocol, and what the miners make alone. (The laws of a protocol that is lent only the tapes that it draws from are
+-- for other callers: `play` lends all.)
 use Rattle.std.specs.Prelude.{Option, Some, None}
 use Prim.Native.Nat.{ℕ, ◌<◌}
 use mathlib.Core.Path.{◌≡◌, refl, sym, ap, subst, ◌∙◌}
