@@ -8,6 +8,8 @@ use borrow.Author.Tests.{leb-true}
 use lib.ListN.{length, take}
 use lib.Dec.{leb, lit≤}
 use Rattle.protocols.specs.declared.place.Place.{Place}
+use Rattle.protocols.specs.Shares.{one, two, three}
+use Rattle.protocols.specs.Place.{Receiver, miner, controller}
 use Rattle.protocols.specs.Counts.{due}
 use Rattle.machine.specs.declared.code.Code.{Code}
 use Rattle.machine.specs.declared.code.Command.{Command}
@@ -22,7 +24,6 @@ use Rattle.machine.specs.Verdict.{Verdict, Refused, check, told, sound, unused_z
 use Rattle.machine.specs.Accept.{Begun}
 use Rattle.machine.proofs.Laws.Accepted.{every_list_lem, refusal_passed, room, places_within}
 use Rattle.machine.proofs.Laws.Judge.{fields-taken}
-use Rattle.machine.proofs.Laws.Entries.{due-list_lengths}
 
 -- ---- a number, and the checks after it
 
@@ -103,13 +104,13 @@ pub begun : (x : Code) (c : Command) (p : Place) (l : Lent) → sound p (sizes l
 begun x c p l s e =
     let w = places_within p (sizes l) l.kinds s in
     let t = refusal_passed 5 (row 5 x) c p (sizes l).one (sizes l).inputs l.kinds (sym e) in
+    let within : (r : Receiver) → due r p.received ≤ due r (sizes l).received =
+    λ r. leb-true _ _ (every_list_lem (λ j. leb (due j p.received) (due j (sizes l).received)) w.3 r) in
     record {
       entries = room p.handles (length l.tables.one) (row 5 x).values w.0 t.4;
       inputs = room p.inputs (length l.inputs) (row 5 x).inputs w.1 t.5;
-      received = λ i. omega (
-        arith,
-        due-list_lengths i l.received,
-        leb-true (due i p.received) (due i (sizes l).received)
-            (every_list_lem (λ j. leb (due j p.received) (due j (sizes l).received)) w.3 i),
-      );
+      one = within (miner one);
+      two = within (miner two);
+      three = within (miner three);
+      controller = within controller;
     }
