@@ -48,6 +48,7 @@ fn within_lists(p: Place, z: Sizes) -> bool
 }
 
 // A kind less 1: it has no bit but the lowest just where the kind is 1 or 2.
+#[tactic(auto, using(crate::proofs::Laws::KindTest::kind_less_one))]
 fn less_one(kind: u32) -> u32
     ensures { (result ≡ sub (modulus 5) kind 1) × (nat_lt result 2 ≡ is_kind kind) }
 {
