@@ -5,6 +5,7 @@ pub mod Tests
 pub mod Rows
 pub mod Steps
 pub mod Lowest
+pub mod Numbers
 pub mod Refusals
 pub mod Entries
 pub mod Judge

@@ -27,11 +27,7 @@ fn bit_at(x: u32, j: u32) -> u32
 fn bits_at(u: Shares, j: u32) -> Shares
     ensures { result ≡ spec.bits_at j u }
 {
-    Shares {
-        one: bit_at(u.one, j),
-        two: bit_at(u.two, j),
-        three: bit_at(u.three, j),
-    }
+    u.map(|x| bit_at(x, j))
 }
 
 fn low_bit(x: u32) -> u32

@@ -84,11 +84,7 @@ fn carried(k: u32, p: Shares, s: Shares, q: Shares, t: Shares, base: Shares) -> 
     ensures { result ≡ spec.carried (width 5) k p s q t base }
 {
     Held {
-        p: Shares {
-            one: round_p(k, p.one, p.three),
-            two: round_p(k, p.two, p.one),
-            three: round_p(k, p.three, p.two),
-        },
+        p: p.zip(p.previous(), |own, previous| round_p(k, own, previous)),
         s: Shares {
             one: round_s(k, p.one, p.three, s.one, s.three),
             two: round_s(k, p.two, p.one, s.two, s.one),
@@ -137,14 +133,11 @@ fn begun(dealt: Dealt, q: Shares, t: Shares) -> Held
 }
 
 // The result: s shifted up by one, with p as it was before the rounds.
+#[tactic(auto, unfolding(crate::specs::Word::up))]
 fn joined(h: Held) -> Shares
     ensures { result ≡ spec.joined (width 5) h }
 {
-    Shares {
-        one: (h.s.one << 1) ^ h.base.one,
-        two: (h.s.two << 1) ^ h.base.two,
-        three: (h.s.three << 1) ^ h.base.three,
-    }
+    h.s.zip(h.base, |s, base| (s << 1) ^ base)
 }
 
 // The dealing, with the masks of the first round sent on. (bar2, bar3 are document 01's R2, R3.)

@@ -59,11 +59,9 @@ fn folded(k: u32, p: Shares, q: Shares) -> Folding
     ensures { result ≡ spec.folded (width 5) k p q }
 {
     Folding {
-        p: Shares {
-            one: fold_share(k, p.one, p.three),
-            two: fold_share(k, p.two, p.one),
-            three: fold_share(k, p.three, p.two),
-        },
+        p: p.zip(p.previous(), |own, previous| {
+            fold_share(k, own, previous)
+        }),
         q,
     }
 }

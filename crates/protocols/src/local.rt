@@ -11,22 +11,14 @@ use super::shares::Shares;
 pub fn sum(u: Shares, v: Shares) -> Shares
     ensures { result ≡ local.sum (modulus 5) (operands u v) }
 {
-    Shares {
-        one: ring::add(u.one, v.one),
-        two: ring::add(u.two, v.two),
-        three: ring::add(u.three, v.three),
-    }
+    u.zip(v, ring::add)
 }
 
 // Shares of u - v.
 pub fn difference(u: Shares, v: Shares) -> Shares
     ensures { result ≡ local.difference (modulus 5) (operands u v) }
 {
-    Shares {
-        one: ring::sub(u.one, v.one),
-        two: ring::sub(u.two, v.two),
-        three: ring::sub(u.three, v.three),
-    }
+    u.zip(v, ring::sub)
 }
 
 // Shares of u + c: miner 1's share alone changes.
@@ -35,8 +27,7 @@ pub fn shifted(u: Shares, c: u32) -> Shares
 {
     Shares {
         one: ring::add(u.one, c),
-        two: u.two,
-        three: u.three,
+        ..u
     }
 }
 
@@ -44,9 +35,5 @@ pub fn shifted(u: Shares, c: u32) -> Shares
 pub fn multiple(u: Shares, c: u32) -> Shares
     ensures { result ≡ local.multiple (modulus 5) c u }
 {
-    Shares {
-        one: ring::mul(u.one, c),
-        two: ring::mul(u.two, c),
-        three: ring::mul(u.three, c),
-    }
+    u.map(|x| ring::mul(x, c))
 }

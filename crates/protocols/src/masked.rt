@@ -8,11 +8,7 @@ use super::shares::Shares;
 pub fn masked(p: Shares, q: Shares) -> Shares
     ensures { result ≡ spec.masked p q }
 {
-    Shares {
-        one: p.one ^ q.one ^ q.three,
-        two: p.two ^ q.two ^ q.one,
-        three: p.three ^ q.three ^ q.two,
-    }
+    p.zip(q, |p, q| p ^ q).zip(q.previous(), |p, q| p ^ q)
 }
 
 // A miner's share of a shared 'and', from its own shares a, b and the previous miner's x, y.

@@ -16,11 +16,7 @@ use super::shares::Shares;
 pub fn fresh(s: Shares, r: Shares) -> Shares
     ensures { result ≡ spec.fresh (modulus 5) s r }
 {
-    Shares {
-        one: ring::sub(ring::add(s.one, r.one), r.three),
-        two: ring::sub(ring::add(s.two, r.two), r.one),
-        three: ring::sub(ring::add(s.three, r.three), r.two),
-    }
+    s.zip(r, ring::add).zip(r.previous(), ring::sub)
 }
 
 // Other shares of the same value.

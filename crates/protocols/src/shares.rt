@@ -1,5 +1,6 @@
 // Three words, one for each miner.
-ghost use Rattle.std.specs.Prelude.{Some};
+ghost use Rattle.std.specs.Prelude.{◌≡◌, Some};
+ghost use Rattle.protocols.specs.Shares.{at, each, prev};
 ghost use Rattle.protocols.specs.Printed as printed;
 
 use std::fmt;
@@ -9,6 +10,46 @@ pub struct Shares {
     pub one: u32,
     pub two: u32,
     pub three: u32,
+}
+
+impl Shares {
+    // Of each miner's word.
+    #[inline(always)]
+    pub(crate) fn map<F: Fn(u32) -> u32>(self, f: F) -> Shares
+        requires { F.IsAlwaysCallable f }
+        ensures { F.post f self.one result.one × F.post f self.two result.two × F.post f self.three result.three }
+    {
+        Shares {
+            one: f(self.one),
+            two: f(self.two),
+            three: f(self.three),
+        }
+    }
+
+    // Of each miner's two words.
+    #[inline(always)]
+    pub(crate) fn zip<F: Fn(u32, u32) -> u32>(self, other: Shares, f: F) -> Shares
+        requires { F.IsAlwaysCallable f }
+        ensures { F.post f self.one other.one result.one × F.post f self.two other.two result.two × F.post f self.three other.three result.three }
+    {
+        Shares {
+            one: f(self.one, other.one),
+            two: f(self.two, other.two),
+            three: f(self.three, other.three),
+        }
+    }
+
+    // The previous miner's word, at each miner.
+    #[inline(always)]
+    pub(crate) fn previous(self) -> Shares
+        ensures { result ≡ each (λ i. at (prev i) self) }
+    {
+        Shares {
+            one: self.three,
+            two: self.one,
+            three: self.two,
+        }
+    }
 }
 
 impl fmt::Display for Shares {

@@ -29,8 +29,7 @@ fn front(list: &mut [u32], count: usize) -> &mut [u32] {
     &mut list[..end]
 }
 
-// The arrays are those of the program `pool`. It lends them whole: a function that serves both would give it lengths to choose, for this
-// test alone.
+// The arrays are those of `pool`: one function for both would give that program lengths to choose, for this test alone.
 pub(crate) fn print(out: &mut impl Write, file: &[u8], lent: Lending) -> io::Result<()> {
     let mut words = [0u32; WORDS];
     let mut share1 = [0u32; 128];

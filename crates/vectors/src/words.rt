@@ -1,4 +1,5 @@
 // Lists of words for the cases: those of a congruential generator, or numbers in a row.
+use std::array;
 
 // A generator, where it is.
 #[derive(Clone, Copy)]
@@ -19,21 +20,16 @@ impl Generator {
 
     // The next words.
     pub(crate) fn words<const N: usize>(&mut self) -> [u32; N] {
-        let mut words = [0; N];
-        for word in &mut words {
-            *word = self.next_word();
-        }
-        words
+        array::from_fn(|_| self.next_word())
     }
 }
 
 // Numbers in a row.
 pub(crate) fn in_a_row<const N: usize>(first: u32) -> [u32; N] {
-    let mut words = [0; N];
     let mut next = first;
-    for word in &mut words {
-        *word = next;
+    array::from_fn(|_| {
+        let word = next;
         next = next.wrapping_add(1);
-    }
-    words
+        word
+    })
 }

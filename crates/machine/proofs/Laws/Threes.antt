@@ -20,7 +20,7 @@ drop_short l j h = omega (arith, length-drop j l)
 
 -- ---- commands
 
-commands_none : (l : List ℕ) → length l < 3 → commands_of l ≡ []
+pub commands_none : (l : List ℕ) → length l < 3 → commands_of l ≡ []
 unfolding commands_of
 commands_none [] h = refl
 commands_none (x ∷ []) h = refl
