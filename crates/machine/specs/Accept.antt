@@ -4,8 +4,8 @@ use Rattle.protocols.specs.declared.place.Place.{Place}
 use Rattle.protocols.specs.declared.place.Received.{Received}
 use Rattle.protocols.specs.declared.shares.Shares.{Shares}
 use Rattle.protocols.specs.Word.{modulus}
-use Rattle.protocols.specs.Place.{Lists, lists, Receiver, list}
-use Rattle.protocols.specs.Counts.{plus_received, due}
+use Rattle.protocols.specs.Place.{Lists, lists}
+use Rattle.protocols.specs.Counts.{plus_received}
 use Rattle.protocols.specs.Outcome.{Outcome}
 use Rattle.protocols.specs.Local.{sum, difference, shifted, multiple}
 use Rattle.machine.specs.declared.answer.Answer.{Answer}
@@ -33,7 +33,10 @@ pub record Fits (p : Place) (x : Row) : Type 0 where
 pub record Begun (x : Code) (p : Place) (l : Lent) : Type 0 where
   pub entries : p.handles + (row 5 x).values ≤ length l.tables.one
   pub inputs : p.inputs + (row 5 x).inputs ≤ length l.inputs
-  pub received : (r : Receiver) → due r p.received ≤ length (list r l.received)
+  pub one : p.received.one ≤ length l.received.one
+  pub two : p.received.two ≤ length l.received.two
+  pub three : p.received.three ≤ length l.received.three
+  pub controller : p.received.controller ≤ length l.received.controller
 
 -- what the miners make alone, by the command
 abbrev pub alone : Code → ℕ → Given → Option Shares

@@ -1,12 +1,12 @@
 -- When a command is turned down: the lowest number that applies, and only then. (01, 'When a call is turned down', numbers 4 to 13)
 -- It is told from what is public: the command, the place record, the lengths of all lent lists, and the kinds.
-use Rattle.std.specs.Prelude.{ℕ, zero, suc, ◌-◌, Bool, true, cond, ◌&&◌, ◌||◌, List, take, nat_lt, nat_le, nat_eq, Result, Ok, Err}
+use Rattle.std.specs.Prelude.{ℕ, zero, suc, ◌-◌, Bool, true, cond, ◌&&◌, ◌||◌, List, length, take, nat_lt, nat_le, nat_eq, Result, Ok, Err}
 use Rattle.std.specs.List.{list_all}
 use Rattle.protocols.specs.declared.place.Place.{Place}
 use Rattle.protocols.specs.Word.{width}
 use Rattle.protocols.specs.Shares.{one, two, three}
-use Rattle.protocols.specs.Place.{count, every, Receiver, miner, controller}
-use Rattle.protocols.specs.Counts.{due}
+use Rattle.protocols.specs.Place.{counts, count, every, Receiver, miner, controller}
+use Rattle.protocols.specs.Counts.{received, due}
 use Rattle.machine.specs.declared.code.Command.{Command}
 use Rattle.machine.specs.declared.code.Code.{Code}
 use Rattle.machine.specs.declared.refusal.Refusal.{Refusal}
@@ -81,6 +81,10 @@ unused_zero x c = meets x.a (nat_eq c.a 0) true true && meets x.b (nat_eq c.b 0)
 -- 7: 'a used handle is 0 or not filled'
 abbrev pub filled : Place → ℕ → Bool
 filled p h = nat_lt 0 h && nat_le h p.handles
+
+-- a place of just the filled handles that have these kinds: what 7 and 8 read of a place
+abbrev pub holding : List ℕ → Place
+holding kinds = record { handles = length kinds; inputs = 0; drawn = counts 0 0 0 0; received = received 0 0 0 0 }
 
 abbrev pub handles_filled : Row → Place → Command → Bool
 handles_filled x p c = meets x.a true (filled p c.a) true && meets x.b true (filled p c.b) true

@@ -18,6 +18,7 @@ fn write(list: &mut [u32], i: usize, word: u32)
 impl Tables<'_> {
     // In every table at the same place, where a value is due.
     #[inline(always)]
+    #[tactic(auto, unfolding(crate::specs::Accept::append))]
     pub(crate) fn store(&mut self, values: usize, at: usize, s: Shares, kind: Kind)
         ensures same { SameTables self.old self.new }
         ensures stored { stored_of self.new ≡ append values at s kind (tables_of self.old) self.old.kinds.now }

@@ -1,13 +1,13 @@
 // When a command is turned down, up to number 11; a protocol itself tells 12 and 13. Nothing here writes, and nothing sees a share, an
 // input, a tape word or a received word.
-ghost use Rattle.std.specs.Prelude.{◌≡◌, ◌&&◌, ◌≤◌, length, take, nat_le, nat_lt, nat_eq};
+ghost use Rattle.std.specs.Prelude.{◌≡◌, ◌&&◌, ◌≤◌, length, nat_le, nat_lt, nat_eq, cond, Some, None};
 ghost use Rattle.protocols.specs.Word.{modulus, sub};
 ghost use Rattle.protocols.specs.Place.{count, every};
 ghost use Rattle.protocols.specs.Counts.{due};
 ghost use Rattle.machine.specs.Refusal.{number_of};
 ghost use Rattle.machine.specs.Table.{kind_number, row};
 ghost use Rattle.machine.specs.Lent.{entry};
-ghost use Rattle.machine.specs.Verdict.{same_length, within, is_kind, are_kinds, every_list, sound, check};
+ghost use Rattle.machine.specs.Verdict.{same_length, within, is_kind, are_kinds, every_list, sound, holding, check};
 ghost use Rattle.machine.specs.Verdict as spec;
 
 use super::code::{Code, Command};
@@ -48,19 +48,19 @@ fn within_lists(p: Place, z: Sizes) -> bool
 }
 
 // A kind less 1: it has no bit but the lowest just where the kind is 1 or 2.
+#[tactic(auto, using(crate::proofs::Laws::KindTest::kind_less_one))]
 fn less_one(kind: u32) -> u32
     ensures { (result ≡ sub (modulus 5) kind 1) × (nat_lt result 2 ≡ is_kind kind) }
 {
     ring::sub(kind, 1)
 }
 
-// Whether the first n kinds are each 1 or 2. (No early way out: so the compiler can look at several at once.)
-fn are_kinds(kinds: &[u32], n: usize) -> bool
-    ensures { result ≡ are_kinds (take n kinds.now) }
+// Whether they are each 1 or 2. (No early way out: so the compiler can look at several at once.)
+fn are_kinds(kinds: &[u32]) -> bool
+    ensures { result ≡ are_kinds kinds.now }
 {
-    let first = &kinds[..n.min(kinds.len())];
     let mut seen = 0;
-    for kind in first {
+    for kind in kinds {
         seen |= less_one(*kind);
     }
     seen < 2
@@ -69,42 +69,41 @@ fn are_kinds(kinds: &[u32], n: usize) -> bool
 pub(crate) fn is_sound(p: Place, z: Sizes, kinds: &[u32]) -> bool
     ensures { result ≡ sound p z kinds.now }
 {
-    same_length(z) & within_lists(p, z) & are_kinds(kinds, p.handles)
+    let filled = &kinds[..p.handles.min(kinds.len())];
+    same_length(z) & within_lists(p, z) & are_kinds(filled)
 }
 
-// ---- numbers 6 to 9: the fields a and b
+// ---- numbers 6 to 9: the fields a and b, by the kinds of the filled handles
 
-fn filled(p: Place, h: u32) -> bool
-    ensures { result ≡ spec.filled p h }
+// The kind of a filled handle, which counts from 1: less 1, handle 0 is past any end.
+#[inline(always)]
+fn kind_of(filled: &[u32], h: u32) -> Option<u32>
+    ensures { result ≡ cond (spec.filled (holding filled.now) h) (Some (entry filled.now h)) None }
 {
-    (0 < h) & (h as usize <= p.handles)
+    filled.get((h as usize).wrapping_sub(1)).copied()
 }
 
 // One handle.
-fn operand(h: u32, kind: Kind, p: Place, kinds: &[u32]) -> Result<(), Refusal>
-    requires { p.handles ≤ length kinds.now }
-    ensures { number_of result ≡ check 7 (spec.filled p h) (check 8 (nat_eq (entry kinds.now h) (kind_number kind)) 0) }
+fn operand(h: u32, kind: Kind, filled: &[u32]) -> Result<(), Refusal>
+    ensures { number_of result ≡ check 7 (spec.filled (holding filled.now) h) (check 8 (nat_eq (entry filled.now h) (kind_number kind)) 0) }
 {
-    if !filled(p, h) {
+    let Some(found) = kind_of(filled, h) else {
         return Err(Refusal::HandleNotFilled);
-    }
-    if kinds[h as usize - 1] != u32::from(kind) {
+    };
+    if found != u32::from(kind) {
         return Err(Refusal::WrongKind);
     }
     Ok(())
 }
 
 // Two handles of ring values.
-fn pair(c: Command, p: Place, kinds: &[u32]) -> Result<(), Refusal>
-    requires { p.handles ≤ length kinds.now }
-    ensures { number_of result ≡ check 7 (spec.filled p c.a && spec.filled p c.b) (check 8 (nat_eq (entry kinds.now c.a) 1 && nat_eq (entry kinds.now c.b) 1) 0) }
+fn pair(c: Command, filled: &[u32]) -> Result<(), Refusal>
+    ensures { number_of result ≡ check 7 (spec.filled (holding filled.now) c.a && spec.filled (holding filled.now) c.b) (check 8 (nat_eq (entry filled.now c.a) 1 && nat_eq (entry filled.now c.b) 1) 0) }
 {
-    if !(filled(p, c.a) & filled(p, c.b)) {
+    let (Some(kind_a), Some(kind_b)) = (kind_of(filled, c.a), kind_of(filled, c.b)) else {
         return Err(Refusal::HandleNotFilled);
-    }
+    };
     let ring = u32::from(Kind::RingValue);
-    let kind_a = kinds[c.a as usize - 1];
-    let kind_b = kinds[c.b as usize - 1];
     if !((kind_a == ring) & (kind_b == ring)) {
         return Err(Refusal::WrongKind);
     }
@@ -112,22 +111,20 @@ fn pair(c: Command, p: Place, kinds: &[u32]) -> Result<(), Refusal>
 }
 
 // One handle of a ring value, b being unused.
-fn single(c: Command, p: Place, kinds: &[u32]) -> Result<(), Refusal>
-    requires { p.handles ≤ length kinds.now }
-    ensures { number_of result ≡ check 6 (nat_eq c.b 0) (check 7 (spec.filled p c.a) (check 8 (nat_eq (entry kinds.now c.a) 1) 0)) }
+fn single(c: Command, filled: &[u32]) -> Result<(), Refusal>
+    ensures { number_of result ≡ check 6 (nat_eq c.b 0) (check 7 (spec.filled (holding filled.now) c.a) (check 8 (nat_eq (entry filled.now c.a) 1) 0)) }
 {
     if c.b != 0 {
         return Err(Refusal::FieldNotZero);
     }
-    operand(c.a, Kind::RingValue, p, kinds)
+    operand(c.a, Kind::RingValue, filled)
 }
 
 // One handle of a bit word, and a position in it.
-fn position(c: Command, p: Place, kinds: &[u32]) -> Result<(), Refusal>
-    requires { p.handles ≤ length kinds.now }
-    ensures { number_of result ≡ check 7 (spec.filled p c.a) (check 8 (nat_eq (entry kinds.now c.a) 2) (check 9 (nat_lt c.b 32) 0)) }
+fn position(c: Command, filled: &[u32]) -> Result<(), Refusal>
+    ensures { number_of result ≡ check 7 (spec.filled (holding filled.now) c.a) (check 8 (nat_eq (entry filled.now c.a) 2) (check 9 (nat_lt c.b 32) 0)) }
 {
-    operand(c.a, Kind::BitWord, p, kinds)?;
+    operand(c.a, Kind::BitWord, filled)?;
     if 32 <= c.b {
         return Err(Refusal::PositionOutside);
     }
@@ -145,18 +142,15 @@ fn unused(c: Command) -> Result<(), Refusal>
 }
 
 // By command: its fields.
-fn fields(code: Code, c: Command, p: Place, kinds: &[u32]) -> Result<(), Refusal>
-    requires { p.handles ≤ length kinds.now }
-    ensures { number_of result ≡ spec.fields 5 (row 5 code) c p kinds.now }
+fn fields(code: Code, c: Command, filled: &[u32]) -> Result<(), Refusal>
+    ensures { number_of result ≡ spec.fields 5 (row 5 code) c (holding filled.now) filled.now }
 {
     match code {
         Code::Store => unused(c),
-        Code::Add | Code::Subtract | Code::Multiply | Code::Equal | Code::Below => {
-            pair(c, p, kinds)
-        }
-        Code::AddConstant | Code::TimesConstant => operand(c.a, Kind::RingValue, p, kinds),
-        Code::Reshare | Code::Bits | Code::Open => single(c, p, kinds),
-        Code::Bit => position(c, p, kinds),
+        Code::Add | Code::Subtract | Code::Multiply | Code::Equal | Code::Below => pair(c, filled),
+        Code::AddConstant | Code::TimesConstant => operand(c.a, Kind::RingValue, filled),
+        Code::Reshare | Code::Bits | Code::Open => single(c, filled),
+        Code::Bit => position(c, filled),
     }
 }
 
@@ -208,6 +202,6 @@ pub(crate) fn fields_and_room(
     requires { p.handles ≤ length kinds.now }
     ensures { number_of result ≡ spec.refusal 5 (row 5 code) c p entries inputs kinds.now }
 {
-    fields(code, c, p, kinds)?;
+    fields(code, c, &kinds[..p.handles])?;
     room(code, p, entries, inputs)
 }

@@ -41,6 +41,7 @@ pub(crate) fn make_alone(code: Code, b: u32, g: Given) -> Option<Shares>
 // On the drawn words that follow the place; received words go to the front of each list. (A match and no table of closures: the protocols
 // take other operands each, and the compiler puts each into its arm.)
 #[inline(always)]
+#[tactic(auto, using(crate::proofs::Laws::Play::on_part, crate::proofs::Laws::Play::made_alone), unfolding(crate::specs::Steps::protocol))]
 pub fn play(
     code: Code,
     b: u32,

@@ -6,7 +6,7 @@ use mathlib.Core.Bool.{true, ◌&&◌}
 use mathlib.Core.List.{List, ◌++◌}
 use native.Mathlib.Omega.{arith}
 use lib.Dec.{leb, leb-zero}
-use lib.ListN.{length, take, drop, set, take-append-drop}
+use lib.ListN.{length, take, drop, take-append-drop}
 use Rattle.protocols.specs.Outcome.{Outcome}
 use Rattle.protocols.specs.declared.place.Place.{Place}
 use Rattle.protocols.specs.declared.place.Received.{Received}
@@ -23,11 +23,10 @@ use Rattle.machine.specs.declared.code.Code.TheVariants.{Store, Add, Subtract, A
 use Rattle.machine.specs.declared.code.Command.{Command}
 use Rattle.machine.specs.declared.given.Given.{Given}
 use Rattle.machine.specs.declared.lent.Sizes.{Sizes}
-use Rattle.machine.specs.declared.kind.Kind.{Kind}
 use Rattle.machine.specs.declared.kind.Kind.TheVariants.{RingValue}
 use Rattle.machine.specs.declared.row.Row.{Row}
-use Rattle.machine.specs.Table.{kind_number, row, moved}
-use Rattle.machine.specs.Lent.{Tables, tables, Lent, lent, sizes}
+use Rattle.machine.specs.Table.{row, moved}
+use Rattle.machine.specs.Lent.{Tables, Lent, lent, sizes}
 use Rattle.machine.specs.Verdict.{Verdict, Accepted, supplied}
 use Rattle.machine.specs.Steps.{protocol}
 use Rattle.machine.specs.Command.{Outcome as Done, answer, outcome, given, opened, with_words, decided, accepted}
@@ -35,21 +34,6 @@ use Rattle.machine.specs.Accept.{Begun, Fits, alone, one_more, counted, unfilled
 use Rattle.machine.proofs.Laws.Play.{made, Joins}
 use Rattle.machine.proofs.Laws.Steps.{steps_counted}
 use Rattle.machine.proofs.Laws.Supplied.{Told, lacking, having, f, g, drawn, supplied-told}
-
--- ---- entries of the tables
-
-pub stored_same : {a b c k a' b' c' k' : List ℕ} → a ≡ a' → b ≡ b' → c ≡ c' → k ≡ k' → stored (tables a b c) k ≡ stored (tables a' b' c') k'
-stored_same e f g h = λ i. stored (tables (e i) (f i) (g i)) (h i)
-
-pub append_none : (at : ℕ) (s : Shares) (kind : Kind) (t : Tables) (kinds : List ℕ) → append 0 at s kind t kinds ≡ stored t kinds
-unfolding append
-append_none at s kind t kinds = refl
-
-pub append_some : (v at : ℕ) (s : Shares) (kind : Kind) (t : Tables) (kinds : List ℕ) → ¬ (v ≡ 0)
-    → append v at s kind t kinds ≡ stored (tables (set t.one at s.one) (set t.two at s.two) (set t.three at s.three)) (set kinds at (kind_number kind))
-unfolding append
-append_some zero at s kind t kinds h = absurd (h refl)
-append_some (suc v) at s kind t kinds h = refl
 
 -- ---- words for every party
 

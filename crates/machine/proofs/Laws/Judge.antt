@@ -1,5 +1,5 @@
 -- The register machine, told the kinds of its registers, gives the command's verdict.
-use Prim.Native.Nat.{ℕ, ◌-◌}
+use Prim.Native.Nat.{ℕ, ◌-◌, ◌≤◌}
 use mathlib.Core.Path.{◌≡◌, refl, ap, ap₂, ◌∙◌}
 use mathlib.Core.Bool.{Bool, true, false, ◌&&◌}
 use mathlib.Core.List.{List, map}
@@ -7,7 +7,7 @@ use native.Mathlib.Nat.{le_refl}
 use native.Mathlib.Omega.{arith}
 use borrow.Author.Tests.{ltb-true, leb-true, eqb-true}
 use lib.ListN.{length, take}
-use lib.Seq.{take-take, get_or-take}
+use lib.Seq.{take-take, get_or-take, length-take-le}
 use lib.Dec.{ltb, leb, eqb}
 use Rattle.std.specs.Prelude.{Result, Ok, Err}
 use Rattle.protocols.specs.declared.place.Place.{Place}
@@ -21,7 +21,7 @@ use Rattle.machine.specs.declared.lent.Sizes.{Sizes}
 use Rattle.machine.specs.declared.code.Command.{Command}
 use Rattle.machine.specs.Table.{find, kind_number, row}
 use Rattle.machine.specs.Lent.{table, Lent, sizes, entry, Filled}
-use Rattle.machine.specs.Verdict.{Verdict, Accepted, test, check, told, same_length, within, are_kinds, meets, filled, unused_zero, handles_filled, kinds_fit, in_word, tables_have, inputs_have, supplied, judged, looked_up, verdict}
+use Rattle.machine.specs.Verdict.{Verdict, Accepted, test, check, told, same_length, within, are_kinds, meets, filled, holding, fields, unused_zero, handles_filled, kinds_fit, in_word, tables_have, inputs_have, supplied, judged, looked_up, verdict}
 use Rattle.machine.specs.Registers.{judge}
 use Rattle.machine.specs.Start.{register_of, up_to, start}
 use Rattle.protocols.proofs.Laws.Deliveries.{both}
@@ -44,7 +44,7 @@ sound-alike true true f v k k' e = ap (λ (l : List ℕ). test 4 (f l) (v l)) (e
 sound-alike true false f v k k' e = refl
 sound-alike false b f v k k' e = refl
 
-module _ (n : ℕ) (c : Command) (p : Place) (z : Sizes) (kinds : List ℕ) where
+module _ (n : ℕ) (c : Command) (p : Place) (kinds : List ℕ) where
   field_fits : (u : Use) (h k : ℕ) → meets u true (filled p h) true ≡ true
       → meets u true (eqb (entry (take p.handles kinds) h) k) true ≡ meets u true (eqb (entry kinds h) k) true
   field_fits Unused h k e = refl
@@ -59,13 +59,22 @@ module _ (n : ℕ) (c : Command) (p : Place) (z : Sizes) (kinds : List ℕ) wher
       let t = both (meets x.a true (filled p c.a) true) (meets x.b true (filled p c.b) true) e in
       ap₂ ◌&&◌ (field_fits x.a c.a (kind_number x.operands) t.0) (field_fits x.b c.b (kind_number x.operands) t.1)
 
+  -- nor do the numbers 6 to 9, which the code tells from those alone
+  pub fields-taken : (x : Row) → p.handles ≤ length kinds
+      → fields n x c (holding (take p.handles kinds)) (take p.handles kinds) ≡ fields n x c p kinds
+  fields-taken x h =
+      rw (length-take-le p.handles kinds h)
+      (ap (check 6 (unused_zero x c))
+      (fits_alike (handles_filled x p c) (kinds_fit x (take p.handles kinds) c) (kinds_fit x kinds c) (check 9 (in_word n x c) 0) (kinds_fit_lem x)))
+
+module _ (n : ℕ) (c : Command) (p : Place) (z : Sizes) (kinds : List ℕ) where
   looked_up-taken : (y : Result Code Refusal) → looked_up n y c p z (take p.handles kinds) ≡ looked_up n y c p z kinds
   unfolding judged
   looked_up-taken (Ok x) =
       ap (λ (r : ℕ). told (check 6 (unused_zero (row n x) c) r) (supplied (row n x) p z (Accepted x)))
       (fits_alike (handles_filled (row n x) p c) (kinds_fit (row n x) (take p.handles kinds) c) (kinds_fit (row n x) kinds c)
       (check 9 (in_word n (row n x) c) (check 10 (tables_have (row n x) p z.one) (check 11 (inputs_have (row n x) p z.inputs) 0)))
-      (kinds_fit_lem (row n x)))
+      (kinds_fit_lem n c p kinds (row n x)))
   looked_up-taken (Err r) = refl
 
   verdict-taken : verdict n c p z (take p.handles kinds) ≡ verdict n c p z kinds

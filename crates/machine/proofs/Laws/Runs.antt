@@ -1,20 +1,18 @@
 -- Runs and what they open, a command at a time: what a layer above cites in place of the definitions.
-use Prim.Native.Nat.{ℕ, suc, ◌<◌}
+use Prim.Native.Nat.{ℕ, suc}
 use mathlib.Core.Path.{◌≡◌, refl, ap}
 use mathlib.Core.Bool.{cond}
 use mathlib.Core.List.{List, [], ◌∷◌, ◌++◌}
-use native.Mathlib.Omega.{arith}
 use lib.ListN.{length}
 use lib.Dec.{eqb}
 use Rattle.protocols.specs.declared.place.Place.{Place}
-use Rattle.protocols.specs.Shares.{shares, sum_of}
 use Rattle.protocols.specs.Place.{Tapes, Lists}
 use Rattle.machine.specs.declared.code.Command.{Command}
 use Rattle.machine.specs.declared.answer.Answer.{Answer}
 use Rattle.machine.specs.Lent.{Lent, lent}
 use Rattle.machine.specs.Command.{command}
 use Rattle.machine.specs.Start.{start}
-use Rattle.machine.specs.Run.{Ran, ran, before, run, run_to_refusal, is_opened, opened_words, sums_in_threes}
+use Rattle.machine.specs.Run.{Ran, ran, before, run, run_to_refusal, is_opened, opened_words}
 
 -- ---- past refusals
 
@@ -50,17 +48,6 @@ pub opened_next : (c : Command) (cs : List Command) (a : Answer) (l : List Answe
     → opened_words (c ∷ cs) (a ∷ l) ≡ cond (is_opened c a) (a.opened ∷ []) [] ++ opened_words cs l
 unfolding opened_words
 opened_next c cs a l = refl
-
-pub sums_none : (m : ℕ) (l : List ℕ) → length l < 3 → sums_in_threes m l ≡ []
-unfolding sums_in_threes
-sums_none m [] h = refl
-sums_none m (a ∷ []) h = refl
-sums_none m (a ∷ b ∷ []) h = refl
-sums_none m (a ∷ b ∷ c ∷ l) h = absurd (omega arith)
-
-pub sums_next : (m a b c : ℕ) (l : List ℕ) → sums_in_threes m (a ∷ b ∷ c ∷ l) ≡ sum_of m (shares a b c) ∷ sums_in_threes m l
-unfolding sums_in_threes
-sums_next m a b c l = refl
 
 -- ---- the registers that shares stand for
 

@@ -30,6 +30,13 @@ use Rattle.machine.proofs.Laws.Tests.{Decides, holds, fails, some_tape, some_lis
 use Rattle.machine.proofs.Laws.Steps.{count-lengths, steps_counted, performs}
 use Rattle.machine.proofs.Laws.Entries.{due-list_lengths}
 
+-- each list is as long as the place has it filled
+begun-list : {x : Code} {p : Place} {l : Lent} → Begun x p l → (r : Receiver) → due r p.received ≤ length (list r l.received)
+begun-list begun (miner one) = begun.one
+begun-list begun (miner two) = begun.two
+begun-list begun (miner three) = begun.three
+begun-list begun controller = begun.controller
+
 -- what is left of a list
 pub unfilled-length : (k : Received) (l : Lists) (r : Receiver) → length (list r (unfilled k l)) ≡ length (list r l) - due r k
 unfilled-length k l (miner one) = length-drop k.one l.one
@@ -84,8 +91,8 @@ supplied-told x c p l begun {o} {b} e = by_tapes (tapes_have (row 5 x) p (sizes 
         → (j : Bool) → lists_have (row 5 x) p (sizes l) ≡ j → Decides ((r : Receiver) × short_list r) j → Told x c p l o b
     by_lists t made true m (holds h) =
         let fit : (r : Receiver) → ¬ (length (list r l.received) - due r p.received < due r (row 5 x).received) = λ r s. h (r, omega (arith, s, due-list_lengths r l.received)) in
-        having (rw (t, m)) (λ r. omega (arith, fit r, begun.received r))
-        (made ∙ (claims.deliveries p (part x c p l) ((f x c p l).result (g x c p l) (drawn x c p l)) ((f x c p l).received (g x c p l) (drawn x c p l)) (advance p (row 5 x).drawn)).done_if (λ r. omega (arith, fit r, begun.received r, unfilled-length p.received l.received r, words r)))
+        having (rw (t, m)) (λ r. omega (arith, fit r, begun-list begun r))
+        (made ∙ (claims.deliveries p (part x c p l) ((f x c p l).result (g x c p l) (drawn x c p l)) ((f x c p l).received (g x c p l) (drawn x c p l)) (advance p (row 5 x).drawn)).done_if (λ r. omega (arith, fit r, begun-list begun r, unfilled-length p.received l.received r, words r)))
     by_lists t made false m (fails s) =
         let r = s.0 in
         lacking 12 (rw (t, m))

@@ -5,9 +5,11 @@ use mathlib.Core.Bool.{Bool, true, false}
 use mathlib.Core.List.{List}
 use native.Mathlib.Omega.{arith}
 use borrow.Author.Tests.{leb-true}
-use lib.ListN.{length}
+use lib.ListN.{length, take}
 use lib.Dec.{leb, lit≤}
 use Rattle.protocols.specs.declared.place.Place.{Place}
+use Rattle.protocols.specs.Shares.{one, two, three}
+use Rattle.protocols.specs.Place.{Receiver, miner, controller}
 use Rattle.protocols.specs.Counts.{due}
 use Rattle.machine.specs.declared.code.Code.{Code}
 use Rattle.machine.specs.declared.code.Command.{Command}
@@ -18,10 +20,10 @@ use Rattle.machine.specs.declared.row.Row.{Row}
 use Rattle.machine.specs.Refusal.{number}
 use Rattle.machine.specs.Table.{row}
 use Rattle.machine.specs.Lent.{Lent, sizes}
-use Rattle.machine.specs.Verdict.{Verdict, Refused, check, told, sound, unused_zero, handles_filled, kinds_fit, in_word, fields, room as room_left, refusal, supplied, judged}
+use Rattle.machine.specs.Verdict.{Verdict, Refused, check, told, sound, unused_zero, handles_filled, kinds_fit, in_word, holding, fields, room as room_left, refusal, supplied, judged}
 use Rattle.machine.specs.Accept.{Begun}
 use Rattle.machine.proofs.Laws.Accepted.{every_list_lem, refusal_passed, room, places_within}
-use Rattle.machine.proofs.Laws.Entries.{due-list_lengths}
+use Rattle.machine.proofs.Laws.Judge.{fields-taken}
 
 -- ---- a number, and the checks after it
 
@@ -58,14 +60,18 @@ further true false c d next e = absurd (omega arith)
 further false b c d next e = absurd (omega arith)
 
 -- the number of the fields, and of the room where the fields have none
-module _ (n : ℕ) (x : Row) (c : Command) (p : Place) (entries inputs : ℕ) (kinds : List ℕ) where
-  pub fields_refused : (r : Refusal) → number r ≡ fields n x c p kinds → number r ≡ refusal n x c p entries inputs kinds
-  fields_refused r e =
-      ended (unused_zero x c) (handles_filled x p c) (kinds_fit x kinds c) (in_word n x c) (room_left x p entries inputs) e (numbered r)
+module _ (n : ℕ) (x : Row) (c : Command) (p : Place) (entries inputs : ℕ) (kinds : List ℕ) (h : p.handles ≤ length kinds) where
+  -- the fields' is told from the kinds of the filled handles
+  abbrev told_fields : ℕ
+  told_fields = fields n x c (holding (take p.handles kinds)) (take p.handles kinds)
 
-  pub fields_passed : {q : ℕ} → 0 ≡ fields n x c p kinds → q ≡ room_left x p entries inputs → q ≡ refusal n x c p entries inputs kinds
+  pub fields_refused : (r : Refusal) → number r ≡ told_fields → number r ≡ refusal n x c p entries inputs kinds
+  fields_refused r e =
+      ended (unused_zero x c) (handles_filled x p c) (kinds_fit x kinds c) (in_word n x c) (room_left x p entries inputs) (e ∙ fields-taken n c p kinds x h) (numbered r)
+
+  pub fields_passed : {q : ℕ} → 0 ≡ told_fields → q ≡ room_left x p entries inputs → q ≡ refusal n x c p entries inputs kinds
   fields_passed e f =
-      f ∙ further (unused_zero x c) (handles_filled x p c) (kinds_fit x kinds c) (in_word n x c) (room_left x p entries inputs) e
+      f ∙ further (unused_zero x c) (handles_filled x p c) (kinds_fit x kinds c) (in_word n x c) (room_left x p entries inputs) (e ∙ fields-taken n c p kinds x h)
 
 -- ---- the verdict, by the number
 
@@ -98,13 +104,13 @@ pub begun : (x : Code) (c : Command) (p : Place) (l : Lent) → sound p (sizes l
 begun x c p l s e =
     let w = places_within p (sizes l) l.kinds s in
     let t = refusal_passed 5 (row 5 x) c p (sizes l).one (sizes l).inputs l.kinds (sym e) in
+    let within : (r : Receiver) → due r p.received ≤ due r (sizes l).received =
+    λ r. leb-true _ _ (every_list_lem (λ j. leb (due j p.received) (due j (sizes l).received)) w.3 r) in
     record {
       entries = room p.handles (length l.tables.one) (row 5 x).values w.0 t.4;
       inputs = room p.inputs (length l.inputs) (row 5 x).inputs w.1 t.5;
-      received = λ i. omega (
-        arith,
-        due-list_lengths i l.received,
-        leb-true (due i p.received) (due i (sizes l).received)
-            (every_list_lem (λ j. leb (due j p.received) (due j (sizes l).received)) w.3 i),
-      );
+      one = within (miner one);
+      two = within (miner two);
+      three = within (miner three);
+      controller = within controller;
     }

@@ -2,18 +2,12 @@
 use Prim.Native.Nat.{ℕ, suc, ◌+◌, ◌/◌, ◌≤◌, ◌<◌}
 use mathlib.Core.Path.{◌≡◌, refl, ap}
 use mathlib.Core.List.{List, [], ◌∷◌, map}
-use native.Mathlib.Numerals.{add-one, add-two, add-three}
 use native.Mathlib.Omega.{arith}
 use lib.ListN.{length, get_or, drop, length-drop}
-use lib.Seq.{drop-cons}
 use Rattle.std.specs.Simd.{first_chunks}
 use Rattle.machine.specs.declared.code.Command.{Command}
 use Rattle.machine.specs.Table.{command}
 use Rattle.machine.specs.Run.{commands_of}
-
-pub drop-three : (l : List ℕ) (j : ℕ) → j + 2 < length l → drop j l ≡ get_or l j 0 ∷ get_or l (j + 1) 0 ∷ get_or l (j + 2) 0 ∷ drop (j + 3) l
-drop-three l j h =
-    rw (add-one, add-two, add-three, drop-cons l j 0 (omega arith), drop-cons l (suc j) 0 (omega arith), drop-cons l (suc (suc j)) 0 (omega arith))
 
 pub drop_short : (l : List ℕ) (j : ℕ) → length l ≤ j + 2 → length (drop j l) < 3
 drop_short l j h = omega (arith, length-drop j l)
@@ -47,11 +41,5 @@ pub commands-one : (code a b : ℕ) → commands_of (code ∷ a ∷ b ∷ []) �
 unfolding commands_of
 commands-one code a b = refl
 
-module _ (cs : List ℕ) (i : ℕ) where
-  pub commands_end : length cs ≤ i + 2 → commands_of (drop i cs) ≡ []
-  commands_end h = commands_none (drop i cs) (drop_short cs i h)
-
-  pub commands_turn : i + 2 < length cs
-      → commands_of (drop i cs) ≡ command (get_or cs i 0) (get_or cs (i + 1) 0) (get_or cs (i + 2) 0) ∷ commands_of (drop (i + 3) cs)
-  unfolding commands_of
-  commands_turn h = rw (drop-three cs i h)
+pub commands_end : (cs : List ℕ) (i : ℕ) → length cs ≤ i + 2 → commands_of (drop i cs) ≡ []
+commands_end cs i h = commands_none (drop i cs) (drop_short cs i h)

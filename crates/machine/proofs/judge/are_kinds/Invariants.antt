@@ -4,4 +4,4 @@ use Rattle.machine.specs.Verdict.{are_kinds}
 use Rattle.machine.proofs.judge.are_kinds.Given as goal
 
 abbrev pub invariant-loop-kind : goal.invariant-loop-kind
-invariant-loop-kind l = nat_lt l.seen 2 ≡ are_kinds (take l.kind-index l.first)
+invariant-loop-kind l = nat_lt l.seen 2 ≡ are_kinds (take l.kind-index l.kinds)
