@@ -1,59 +1,60 @@
 // The contents of a session sheet, told from the file's bytes: nothing is written before they are known to be right.
-ghost use Rattle.std.specs.Prelude.{◌≡◌, false, ◌/◌, ◌≤◌, length, take, MatchResult, IsTrue};
+ghost use Rattle.std.specs.Prelude.{◌≡◌, ℕ, true, false, ◌%◌, ◌&&◌, List, nat_eq, take, MatchOption, MatchResult, IsTrue};
 ghost use Rattle.machine.specs.Refusal.{number_of};
 ghost use Rattle.session.specs.Words.{words_of};
-ghost use Rattle.session.specs.Contents.{limits, within};
+ghost use Rattle.session.specs.Contents.{limits, chained, within, count_of};
 ghost use Rattle.session.specs.Session as spec;
 
-use super::words::word_at;
+use super::words::decode;
 use machine::refusal::Refusal;
 
 // Most words of each body.
 const LIMITS: [u32; 6] = [384, 128, 256, 2304, 2304, 2304];
 
-// Whether the file is of words, and has the contents.
-fn is_whole(file: &[u8]) -> bool
-    ensures { result ≡ spec.is_whole file.now }
+// The words of the contents, where the file is of words and has them.
+fn read(file: &[u8]) -> Option<[u32; 12]>
+    ensures { MatchOption result (spec.is_whole file.now ≡ false) (λ w. (spec.is_whole file.now ≡ true) × (w ≡ take 12 (words_of file.now))) }
 {
-    48 <= file.len() && file.len() % 4 == 0
+    if file.len() % 4 != 0 {
+        return None;
+    }
+    let bytes = file.first_chunk::<48>()?;
+    let mut contents = [0; 12];
+    decode(bytes, &mut contents);
+    Some(contents)
 }
 
 // Whether each body starts where the last one ended, and the last one ends the file. Sums are of 64 bits, so none wraps.
-fn is_chained(file: &[u8]) -> bool
-    requires { 48 ≤ length file.now }
-    ensures { result ≡ spec.is_chained file.now }
+fn is_chained(contents: &[u32; 12], end: usize) -> bool
+    ensures { result ≡ chained 12 contents.now end }
 {
     let mut at: usize = 12;
-    for pair in file.chunks_exact(8).take(6) {
-        let start = word_at(pair, 0) as usize;
-        let count = word_at(pair, 4) as usize;
-        if start != at {
+    let (pairs, _) = contents.as_chunks::<2>();
+    for [start, count] in pairs {
+        if *start as usize != at {
             return false;
         }
-        at = start + count;
+        at += *count as usize;
     }
-    at == file.len() / 4
+    at == end
 }
 
 // Whether each count is within its limit.
-fn fits_limits(file: &[u8]) -> bool
-    requires { 48 ≤ length file.now }
-    ensures { result ≡ within limits (take 12 (words_of file.now)) }
+fn fits_limits(contents: &[u32; 12]) -> bool
+    ensures { result ≡ within limits contents.now }
 {
-    let (pairs, _) = file.as_chunks::<8>();
+    let (pairs, _) = contents.as_chunks::<2>();
     LIMITS
         .iter()
         .zip(pairs)
-        .all(|(limit, pair)| word_at(pair, 4) <= *limit)
+        .all(|(most, [_, count])| count <= most)
 }
 
 // Whether no body is over its limit, and the commands are in threes.
-#[tactic(auto, using(crate::proofs::Laws::Contents::commands_count))]
-fn is_within(file: &[u8]) -> bool
-    requires { 48 ≤ length file.now }
-    ensures { result ≡ spec.is_within file.now }
+fn is_within(contents: &[u32; 12]) -> bool
+    ensures { result ≡ (within limits contents.now && nat_eq (count_of contents.now 0 % 3) 0) }
 {
-    fits_limits(file) && word_at(file, 4) % 3 == 0
+    fits_limits(contents) && contents[1] % 3 == 0
 }
 
 // Ok where a test holds.
@@ -64,12 +65,15 @@ fn require(holds: bool, refusal: Refusal) -> Result<(), Refusal>
 }
 
 // The lowest line of the table that turns a session down as a whole; `lent` tells that what is lent will do.
-#[tactic(auto, unfolding(crate::specs::Session::tested))]
+#[tactic(auto, using(crate::proofs::Laws::Contents::commands_count), unfolding(crate::specs::Session::tested))]
 pub(crate) fn validate(file: &[u8], lent: bool) -> Result<(), Refusal>
     ensures { number_of result ≡ spec.tested file.now lent }
 {
-    require(is_whole(file), Refusal::NotWhole)?;
-    require(is_chained(file), Refusal::ContentsBroken)?;
-    require(is_within(file), Refusal::OverLimit)?;
+    let contents = read(file).ok_or(Refusal::NotWhole)?;
+    require(
+        is_chained(&contents, file.len() / 4),
+        Refusal::ContentsBroken,
+    )?;
+    require(is_within(&contents), Refusal::OverLimit)?;
     require(lent, Refusal::LentUnsoundly)
 }

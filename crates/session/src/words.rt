@@ -1,14 +1,6 @@
 // A file's words.
-ghost use Rattle.std.specs.Prelude.{◌≡◌, ◌++◌, ◌+◌, ◌/◌, ◌≤◌, length, drop};
-ghost use Rattle.session.specs.Words.{word_at, words_of};
-
-// The word whose four bytes start at a place, lowest first.
-pub(crate) fn word_at(file: &[u8], at: usize) -> u32
-    requires { at + 4 ≤ length file.now }
-    ensures { result ≡ word_at file.now at }
-{
-    u32::from_le_bytes([file[at], file[at + 1], file[at + 2], file[at + 3]])
-}
+ghost use Rattle.std.specs.Prelude.{◌≡◌, ◌++◌, ◌/◌, ◌≤◌, length, drop};
+ghost use Rattle.session.specs.Words.{words_of};
 
 // Puts the file's words at the front of the lent ones.
 pub(crate) fn decode(file: &[u8], words: &mut [u32])

@@ -1,88 +1,84 @@
 -- The contents of a sheet, pair by pair, and what accepted contents say of the bodies.
 use Prim.Native.Nat.{ℕ, zero, suc, ◌+◌, ◌-◌, ◌*◌, ◌/◌, ◌≤◌, ◌<◌}
-use mathlib.Core.Path.{◌≡◌, refl, sym}
-use mathlib.Core.List.{List, [], ◌∷◌, ◌++◌}
+use mathlib.Core.Path.{◌≡◌, refl, ap, ◌∙◌}
+use mathlib.Core.List.{List, [], ◌∷◌, ◌++◌, append-nil}
 use mathlib.Core.Bool.{Bool, true, false, cond, ◌&&◌, false≢true}
 use mathlib.Core.Logic.{◌↔◌}
 use native.Mathlib.Omega.{arith}
-use lib.ListN.{length, get_or, take, drop, length-drop, take-append-drop}
+use lib.ListN.{length, get_or, take, drop}
 use lib.Seq.{get_or-take, length-take-le}
 use lib.Dec.{eqb, leb}
 use borrow.Author.Tests.{eqb-true, leb-true, eq-eqb, ne_eqb, le-leb, lt-leb}
 use native.Mathlib.Decide.{dec_le}
 use Rattle.std.proofs.lemmas.Bool.Decides.{nat_tests}
+use Rattle.std.proofs.Common.{slice_index_or}
 use Rattle.std.specs.Bool.{IsTrue}
 use Rattle.std.specs.Simd.{first_chunks}
 use Rattle.std.proofs.lemmas.Bool.{false_from_ne_true}
+use Rattle.std.proofs.lemmas.List.{drop_all}
 use Rattle.protocols.proofs.Laws.Deliveries.{both}
-use Rattle.session.specs.Words.{word_at, words_of}
+use Rattle.session.specs.Words.{words_of}
 use Rattle.session.specs.Contents.{chained, limits, within, start_of, count_of, Bodies}
 use Rattle.session.specs.Session.{tested, is_whole, is_chained, is_within}
-use Rattle.session.proofs.Laws.Words.{length-words_of, get_or-words_of}
+use Rattle.session.proofs.Laws.Words.{length-words_of, words_of-first}
 
 pub twelve : (f : List ℕ) → 48 ≤ length f → length (take 12 (words_of f)) ≡ 12
 twelve f long = length-take-le 12 (words_of f) (omega (arith, length-words_of f))
 
+-- the first 48 bytes decoded over twelve words
+pub contents_read : (f b d : List ℕ) → b ≡ take 48 f → 48 ≤ length f → length d ≡ 12 → words_of b ++ drop (length b / 4) d ≡ take 12 (words_of f)
+contents_read f b d e h g =
+    let k : length b ≡ 48 = ap length e ∙ length-take-le 48 f h in
+    rw (drop_all (length b / 4) d (omega arith), append-nil, e) (words_of-first f 12)
+
 -- ---- pair by pair
 
--- the first n pairs of words
-abbrev pub pairs : List ℕ → ℕ → List ℕ
-pairs f n = take (2 * n) (words_of f)
+pub two-suc : (k : ℕ) → 2 * suc k ≡ suc (suc (2 * k))
+two-suc k = omega arith
 
-eight-words : (p r : List ℕ) → length p ≡ 8 → words_of (p ++ r) ≡ word_at p 0 ∷ word_at p 4 ∷ words_of r
-unfolding words_of
-eight-words [] r e = absurd (omega arith)
-eight-words (a ∷ []) r e = absurd (omega arith)
-eight-words (a ∷ b ∷ []) r e = absurd (omega arith)
-eight-words (a ∷ b ∷ c ∷ []) r e = absurd (omega arith)
-eight-words (a ∷ b ∷ c ∷ d ∷ []) r e = absurd (omega arith)
-eight-words (a ∷ b ∷ c ∷ d ∷ x ∷ []) r e = absurd (omega arith)
-eight-words (a ∷ b ∷ c ∷ d ∷ x ∷ y ∷ []) r e = absurd (omega arith)
-eight-words (a ∷ b ∷ c ∷ d ∷ x ∷ y ∷ z ∷ []) r e = absurd (omega arith)
-eight-words (a ∷ b ∷ c ∷ d ∷ x ∷ y ∷ z ∷ w ∷ []) r e = refl
-eight-words (a ∷ b ∷ c ∷ d ∷ x ∷ y ∷ z ∷ w ∷ v ∷ t) r e = absurd (omega arith)
+-- word j of pair i of the first n pairs of the words l
+abbrev pub pair_word : List ℕ → ℕ → ℕ → ℕ → ℕ
+pair_word l n i j = slice_index_or (get_or (first_chunks 2 n l) i []) j 0
 
--- what is left of the bytes l is a pair p and then r
-module _ (l p r : List ℕ) (e : l ≡ p ++ r) (long : length p ≡ 8) where
-  next_pair : (n m : ℕ) → n + 1 ≡ m → pairs l m ≡ word_at p 0 ∷ word_at p 4 ∷ pairs r n
-  next_pair n m h = let two : 2 * m ≡ suc (suc (2 * n)) = omega arith in rw (e, eight-words p r long, two)
+pub next_pair : (l : List ℕ) (n i : ℕ) → i < n → 2 * n ≤ length l → drop (2 * i) l ≡ pair_word l n i 0 ∷ pair_word l n i 1 ∷ drop (2 * (i + 1)) l
+next_pair l zero i h g = absurd (omega arith)
+next_pair [] (suc n) i h g = absurd (omega arith)
+next_pair (s ∷ []) (suc n) i h g = absurd (omega arith)
+next_pair (s ∷ c ∷ r) (suc n) zero h g = refl
+next_pair (s ∷ c ∷ r) (suc n) (suc i) h g =
+    let k : 2 * (suc i + 1) ≡ suc (suc (2 * (i + 1))) = omega arith in rw (two-suc i, k) (next_pair r n i (omega arith) (omega arith))
 
-  module _ (n m : ℕ) (h : n + 1 ≡ m) {s c : ℕ} (es : s ≡ word_at p 0) (ec : c ≡ word_at p 4) where
-    pub chain_turn : (at end : ℕ) → s ≡ at → chained (s + c) (pairs r n) end ≡ chained at (pairs l m) end
-    unfolding chained
-    chain_turn at end k = rw (next_pair n m h, ← es, ← ec, eq-eqb s at k)
+module _ (l : List ℕ) (n i at end : ℕ) (h : i < n) (g : 2 * n ≤ length l) where
+  pub chain_turn : pair_word l n i 0 ≡ at → chained (at + pair_word l n i 1) (drop (2 * (i + 1)) l) end ≡ chained at (drop (2 * i) l) end
+  unfolding chained
+  chain_turn e = rw (next_pair l n i h g, e, eq-eqb at at refl)
 
-    pub chain_broken : (at end : ℕ) → ¬ (s ≡ at) → false ≡ chained at (pairs l m) end
-    unfolding chained
-    chain_broken at end k = rw (next_pair n m h, ← es, ne_eqb s at k)
+  pub chain_broken : ¬ (pair_word l n i 0 ≡ at) → false ≡ chained at (drop (2 * i) l) end
+  unfolding chained
+  chain_broken e = rw (next_pair l n i h g, ne_eqb (pair_word l n i 0) at e)
 
-pub chain_end : (l : List ℕ) (n at end : ℕ) → n ≡ 0 → eqb at end ≡ chained at (pairs l n) end
-unfolding chained
-chain_end l n at end e = rw e
-
--- each of the first pairs of bytes has a count within its limit
+-- each of the first pairs has a count within its limit
 abbrev Each : List ℕ → List ℕ → ℕ → Type 0
-Each ms f n = (k : ℕ) → k < length ms → word_at (get_or (first_chunks 8 n f) k []) 4 ≤ get_or ms k 0
+Each ms l n = (k : ℕ) → k < length ms → pair_word l n k 1 ≤ get_or ms k 0
 
-pub each_within : (ms f : List ℕ) (n : ℕ) (b : Bool) → length ms ≤ n → 8 * n ≤ length f → IsTrue b ↔ Each ms f n → b ≡ within ms (pairs f (length ms))
+pub each_within : (ms l : List ℕ) (n : ℕ) (b : Bool) → length ms ≤ n → 2 * n ≤ length l → IsTrue b ↔ Each ms l n → b ≡ within ms l
 unfolding within
-each_within [] f n b h g e = e.1 (λ k z. absurd (omega arith))
-each_within (m ∷ ms) f zero b h g e = absurd (omega arith)
-each_within (m ∷ ms) f (suc n) b h g e =
-    rw (next_pair f (take 8 f) (drop 8 f) (sym (take-append-drop 8 f)) (length-take-le 8 f (omega arith)) (length ms) (suc (length ms)) (omega arith))
-    (by_count (dec_le (word_at (take 8 f) 4) m) (λ le. each_within ms (drop 8 f) n b (omega arith) (omega (arith, length-drop 8 f)) (rest le)))
+each_within [] l n b h g e = e.1 (λ k z. absurd (omega arith))
+each_within (m ∷ ms) l zero b h g e = absurd (omega arith)
+each_within (m ∷ ms) [] (suc n) b h g e = absurd (omega arith)
+each_within (m ∷ ms) (s ∷ []) (suc n) b h g e = absurd (omega arith)
+each_within (m ∷ ms) (s ∷ c ∷ r) (suc n) b h g e = by_count (dec_le c m) (λ le. each_within ms r n b (omega arith) (omega arith) (rest le))
   where
-    rest : word_at (take 8 f) 4 ≤ m → IsTrue b ↔ Each ms (drop 8 f) n
+    rest : c ≤ m → IsTrue b ↔ Each ms r n
     rest le = (λ t k z. e.0 t (suc k) (omega arith), λ all. e.1 (both le all))
       where
-        both : word_at (take 8 f) 4 ≤ m → Each ms (drop 8 f) n → Each (m ∷ ms) f (suc n)
+        both : c ≤ m → Each ms r n → Each (m ∷ ms) (s ∷ c ∷ r) (suc n)
         both le all zero z = le
         both le all (suc k) z = all k (omega arith)
 
-    by_count : Dec (word_at (take 8 f) 4 ≤ m) → (word_at (take 8 f) 4 ≤ m → b ≡ within ms (pairs (drop 8 f) (length ms)))
-        → b ≡ (leb (word_at (take 8 f) 4) m && within ms (pairs (drop 8 f) (length ms)))
-    by_count (yes le) i = rw (le-leb (word_at (take 8 f) 4) m le) (i le)
-    by_count (no gt) i = rw (lt-leb (word_at (take 8 f) 4) m (omega arith)) (false_from_ne_true b (λ t. gt (e.0 t 0 (omega arith))))
+    by_count : Dec (c ≤ m) → (c ≤ m → b ≡ within ms r) → b ≡ (leb c m && within ms r)
+    by_count (yes le) i = rw (le-leb c m le) (i le)
+    by_count (no gt) i = rw (lt-leb c m (omega arith)) (false_from_ne_true b (λ t. gt (e.0 t 0 (omega arith))))
 
 -- ---- accepted contents
 
@@ -113,9 +109,6 @@ chained-le at end (s ∷ n ∷ r) h =
     let e = eqb-true s at t.0 in
     let m = chained-le (s + n) end r t.1 in
     omega arith
-
-pub two-suc : (k : ℕ) → 2 * suc k ≡ suc (suc (2 * k))
-two-suc k = omega arith
 
 pub two-suc-add : (k : ℕ) → 2 * suc k + 1 ≡ suc (suc (2 * k + 1))
 two-suc-add k = omega arith
@@ -170,8 +163,8 @@ bodies f a =
 pub part : (l : List ℕ) (a n : ℕ) → take (a + n - a) (drop a l) ≡ take n (drop a l)
 part l a n = let e : a + n - a ≡ n = omega arith in rw e
 
-pub commands_count : (f : List ℕ) → 48 ≤ length f → word_at f 4 ≡ count_of (words_of f) 0
-commands_count f h = sym (get_or-words_of f 1 (omega arith))
+pub commands_count : (f : List ℕ) → count_of (take 12 (words_of f)) 0 ≡ count_of (words_of f) 0
+commands_count f = get_or-take 12 (words_of f) 1 0 (omega arith)
 
 pub at_most_4 : (f : List ℕ) (lent : Bool) → tested f lent ≤ 4
 unfolding tested

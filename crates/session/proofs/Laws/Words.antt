@@ -1,6 +1,6 @@
 -- The words of a file, one by one.
 use Prim.Native.Nat.{ℕ, zero, suc, ◌+◌, ◌*◌, ◌/◌, ◌≤◌, ◌<◌}
-use mathlib.Core.Path.{◌≡◌, refl, ◌∙◌}
+use mathlib.Core.Path.{◌≡◌, refl, ap, ◌∙◌}
 use mathlib.Core.List.{List, [], ◌∷◌, ◌++◌}
 use native.Mathlib.Nat.{zero-add}
 use native.Mathlib.Omega.{arith}
@@ -10,7 +10,7 @@ use Rattle.std.proofs.lemmas.List.Edits.{paste_more}
 use mir.Syntax.{w32}
 use Rattle.std.specs.Int.{from_le_bytes}
 use Rattle.std.specs.Simd.{first_chunks}
-use Rattle.session.specs.Words.{word_at, words_of}
+use Rattle.session.specs.Words.{word, word_at, words_of}
 
 pub length-words_of : (f : List ℕ) → length (words_of f) ≡ length f / 4
 unfolding words_of
@@ -37,6 +37,16 @@ get_or-words_of (a ∷ b ∷ c ∷ d ∷ r) zero h = refl
 get_or-words_of (a ∷ b ∷ c ∷ d ∷ r) (suc i) h =
     let below : i < length r / 4 = omega arith in
     get_or-words_of r i below ∙ rw (four_suc-add i 1, four_suc-add i 2, four_suc-add i 3, four_suc i)
+
+-- the words of a file's first bytes are its first words
+pub words_of-first : (f : List ℕ) (n : ℕ) → words_of (take (4 * n) f) ≡ take n (words_of f)
+unfolding words_of
+words_of-first f zero = refl
+words_of-first [] (suc n) = rw (four_suc n) refl
+words_of-first (a ∷ []) (suc n) = rw (four_suc n) refl
+words_of-first (a ∷ b ∷ []) (suc n) = rw (four_suc n) refl
+words_of-first (a ∷ b ∷ c ∷ []) (suc n) = rw (four_suc n) refl
+words_of-first (a ∷ b ∷ c ∷ d ∷ r) (suc n) = rw (four_suc n) (ap (λ w. word a b c d ∷ w) (words_of-first r n))
 
 -- ---- decoding, a word a turn
 

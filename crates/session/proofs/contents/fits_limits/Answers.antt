@@ -6,4 +6,4 @@ use Rattle.session.proofs.Laws.Contents.{each_within}
 use Rattle.session.proofs.contents.fits_limits.Goals as goal
 
 pub returns : goal.returns
-returns c = each_within limits c.args.file.now (length c.args.file.now / 8) c.all.result (omega arith) (omega arith) (search (rules, chains))
+returns c = each_within limits c.args.contents.now (length c.args.contents.now / 2) c.all.result (omega arith) (omega arith) (search (rules, chains))
