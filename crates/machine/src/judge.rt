@@ -25,7 +25,7 @@ fn same_length(z: Sizes) -> bool
     (z.one == z.kinds) & (z.two == z.kinds) & (z.three == z.kinds)
 }
 
-// (This and the next are no trait of ours: two records of other fields, each compared once.)
+// This and the next stay two functions: a trait of our own with two impls would be longer, and each is called once.
 fn at_most_drawn(a: Drawn, b: Drawn) -> bool
     ensures { result ≡ every (λ i. nat_le (count i a) (count i b)) }
 {
@@ -47,14 +47,14 @@ fn within_lists(p: Place, z: Sizes) -> bool
         & at_most_received(p.received, z.received)
 }
 
-// A kind less 1: it has no bit but the lowest just where the kind is 1 or 2.
+// A kind less 1: it has no bit but the lowest just where the kind is 1 or 2. Two comparisons in its place cost half as much again a kind.
 fn less_one(kind: u32) -> u32
     ensures { (result ≡ sub (modulus 5) kind 1) × (nat_lt result 2 ≡ is_kind kind) }
 {
     ring::sub(kind, 1)
 }
 
-// Whether the first n kinds are each 1 or 2. (No early way out: so the compiler can look at several at once.)
+// Whether the first n kinds are each 1 or 2. No early way out, so that the compiler can look at several at once.
 fn are_kinds(kinds: &[u32], n: usize) -> bool
     ensures { result ≡ are_kinds (take n kinds.now) }
 {
