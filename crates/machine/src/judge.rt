@@ -25,7 +25,7 @@ fn same_length(z: Sizes) -> bool
     (z.one == z.kinds) & (z.two == z.kinds) & (z.three == z.kinds)
 }
 
-// (This and the next are no trait of ours: two records of other fields, each compared once.)
+// This and the next stay two functions: a trait of our own with two impls would be longer, and each is called once.
 fn at_most_drawn(a: Drawn, b: Drawn) -> bool
     ensures { result ≡ every (λ i. nat_le (count i a) (count i b)) }
 {
@@ -47,7 +47,7 @@ fn within_lists(p: Place, z: Sizes) -> bool
         & at_most_received(p.received, z.received)
 }
 
-// A kind less 1: it has no bit but the lowest just where the kind is 1 or 2.
+// A kind less 1: it has no bit but the lowest just where the kind is 1 or 2. Two comparisons in its place cost half as much again a kind.
 #[tactic(auto, using(crate::proofs::Laws::KindTest::kind_less_one))]
 fn less_one(kind: u32) -> u32
     ensures { (result ≡ sub (modulus 5) kind 1) × (nat_lt result 2 ≡ is_kind kind) }
@@ -55,7 +55,7 @@ fn less_one(kind: u32) -> u32
     ring::sub(kind, 1)
 }
 
-// Whether they are each 1 or 2. (No early way out: so the compiler can look at several at once.)
+// Whether they are each 1 or 2. No early way out, so that the compiler can look at several at once.
 fn are_kinds(kinds: &[u32]) -> bool
     ensures { result ≡ are_kinds kinds.now }
 {
@@ -141,7 +141,7 @@ fn unused(c: Command) -> Result<(), Refusal>
     Ok(())
 }
 
-// By command: its fields.
+// By command: its fields. (A match and no table of closures, here and in `room`: each arm is proved to be its row's tests.)
 fn fields(code: Code, c: Command, filled: &[u32]) -> Result<(), Refusal>
     ensures { number_of result ≡ spec.fields 5 (row 5 code) c (holding filled.now) filled.now }
 {
