@@ -1,6 +1,12 @@
 -- `machine::run::run_soundly` meets its contract: a turn of the loop is a turn of the run.
 use Rattle.std.proofs.Common.{◌≡◌, ℕ, length, refl, ◌∙◌, arith}
-use Rattle.machine.specs.Command.{answer}
+use mathlib.Core.Path.{sym}
+use Rattle.std.specs.declared.result.Result.{Result}
+use Rattle.protocols.specs.declared.place.Place.{Place}
+use Rattle.machine.specs.declared.answer.Accepted.{Accepted}
+use Rattle.machine.specs.declared.refusal.Refusal.{Refusal}
+use Rattle.machine.specs.Lent.{Lent}
+use Rattle.machine.specs.Command.{Outcome, answer, answer_of, outcome}
 use Rattle.machine.proofs.Laws.Tested.{numbered}
 use Rattle.machine.proofs.Laws.RunTurns.{still-whole, turn-accepted, turn-refused, turn-sound, turns_end}
 use Rattle.machine.proofs.run.run_soundly.Goals as goal
@@ -9,6 +15,11 @@ use Rattle.machine.proofs.run.run_soundly.Goals as goal
 stay : {a₁ a₂ a₃ a₄ b₁ b₂ b₃ b₄ c₁ c₂ c₃ c₄ : ℕ} → (a₁ ≡ b₁) × (a₂ ≡ b₂) × (a₃ ≡ b₃) × (a₄ ≡ b₄) → (b₁ ≡ c₁) × (b₂ ≡ c₂) × (b₃ ≡ c₃) × (b₄ ≡ c₄)
     → (a₁ ≡ c₁) × (a₂ ≡ c₂) × (a₃ ≡ c₃) × (a₄ ≡ c₄)
 stay e f = (e.0 ∙ f.0, e.1 ∙ f.1, e.2 ∙ f.2, e.3 ∙ f.3)
+
+-- what holds of a step's answer holds of the case that it is
+known : (p : Place) (l : Lent) (o : Outcome) {answered one : Result Accepted Refusal} → answered ≡ one
+    → outcome (answer_of p answered) l ≡ o → outcome (answer_of p one) l ≡ o
+known p l o is h = rw (sym is) h
 
 pub loop-done-init : goal.loop-done-init
 loop-done-init c = record {
@@ -22,7 +33,7 @@ pub returns-in-Err-clause-done : goal.returns-in-Err-clause-done
 returns-in-Err-clause-done c =
     let l = c.loop-done in
     rw c.of.ensures
-    (turn-refused _ l.done (answer 0 l.last.place l.last.opened) _ c.loop-done-test.true _ c.in-Err.ensures.done
+    (turn-refused _ l.done (answer 0 l.last.place l.last.opened) _ c.loop-done-test.true _ (known _ _ _ c.in-Err.is c.step-answered.ensures.done)
     (λ e. omega (arith, e, numbered c.in-Err.refusal))
     ∙ l.invariant.comes_to_the_whole)
 
@@ -31,10 +42,10 @@ loop-done-preserved c =
     let l = c.loop-done in
     let last = answer 0 l.last.place l.last.opened in
     record {
-      same_tables = stay c.in-Ok.ensures.same_tables l.invariant.same_tables;
-      same_lists = stay c.in-Ok.ensures.same_lists l.invariant.same_lists;
-      stays_sound = turn-sound _ l.done last _ c.loop-done-test.true _ c.in-Ok.ensures.done l.invariant.stays_sound;
-      comes_to_the_whole = turn-accepted _ l.done last _ c.loop-done-test.true _ c.in-Ok.ensures.done refl ∙ l.invariant.comes_to_the_whole;
+      same_tables = stay c.step-answered.ensures.same_tables l.invariant.same_tables;
+      same_lists = stay c.step-answered.ensures.same_lists l.invariant.same_lists;
+      stays_sound = turn-sound _ l.done last _ c.loop-done-test.true _ (known _ _ _ c.in-Ok.is c.step-answered.ensures.done) l.invariant.stays_sound;
+      comes_to_the_whole = turn-accepted _ l.done last _ c.loop-done-test.true _ (known _ _ _ c.in-Ok.is c.step-answered.ensures.done) refl ∙ l.invariant.comes_to_the_whole;
     }
 
 pub returns-clause-done : goal.returns-clause-done
