@@ -9,6 +9,7 @@ pub fn add(a: u32, b: u32) -> u32
     std::num::wrapping_add_u32(a, b)
 }
 
+#[tactic(auto, using(crate::proofs::Laws::Ring::sub_unique))]
 pub fn sub(a: u32, b: u32) -> u32
     ensures { result ≡ word.sub (word.modulus 5) a b }
 {

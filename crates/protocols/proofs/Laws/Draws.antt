@@ -174,13 +174,13 @@ after None k z = z
 
 -- a draw by what is left of the tape
 module _ (k : ℕ) (i : Party) (l : List ℕ) (p : Place) where
-  pub draw-none : length (drop (count i p.drawn) l) < k → None ≡ draw k i l p
+  pub draw_none : length (drop (count i p.drawn) l) < k → draw k i l p ≡ None
   unfolding draw
-  draw-none h = rw (lt-leb k (length l - count i p.drawn) (omega (arith, h, length-drop (count i p.drawn) l)))
+  draw_none h = rw (lt-leb k (length l - count i p.drawn) (omega (arith, h, length-drop (count i p.drawn) l)))
 
-  pub draw-some : k ≤ length (drop (count i p.drawn) l) → Some (take k (drop (count i p.drawn) l), moved k i p) ≡ draw k i l p
+  pub draw_some : k ≤ length (drop (count i p.drawn) l) → draw k i l p ≡ Some (take k (drop (count i p.drawn) l), moved k i p)
   unfolding draw
-  draw-some h = rw (le-leb k (length l - count i p.drawn) (omega (arith, h, length-drop (count i p.drawn) l)))
+  draw_some h = rw (le-leb k (length l - count i p.drawn) (omega (arith, h, length-drop (count i p.drawn) l)))
 
 -- words of one tape alone
 abbrev pub only : Party → ℕ → Drawn
