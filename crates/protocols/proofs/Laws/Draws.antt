@@ -174,13 +174,13 @@ after None k z = z
 
 -- a draw by what is left of the tape
 module _ (k : ℕ) (i : Party) (l : List ℕ) (p : Place) where
-  pub draw-none : length (drop (count i p.drawn) l) < k → None ≡ draw k i l p
+  pub draw_none : length (drop (count i p.drawn) l) < k → draw k i l p ≡ None
   unfolding draw
-  draw-none h = rw (lt-leb k (length l - count i p.drawn) (omega (arith, h, length-drop (count i p.drawn) l)))
+  draw_none h = rw (lt-leb k (length l - count i p.drawn) (omega (arith, h, length-drop (count i p.drawn) l)))
 
-  pub draw-some : k ≤ length (drop (count i p.drawn) l) → Some (take k (drop (count i p.drawn) l), moved k i p) ≡ draw k i l p
+  pub draw_some : k ≤ length (drop (count i p.drawn) l) → draw k i l p ≡ Some (take k (drop (count i p.drawn) l), moved k i p)
   unfolding draw
-  draw-some h = rw (le-leb k (length l - count i p.drawn) (omega (arith, h, length-drop (count i p.drawn) l)))
+  draw_some h = rw (le-leb k (length l - count i p.drawn) (omega (arith, h, length-drop (count i p.drawn) l)))
 
 -- words of one tape alone
 abbrev pub only : Party → ℕ → Drawn
@@ -242,9 +242,9 @@ module _ (p : Place) (t : Tapes) where
       (λ a p₁. after (draw 1 Two t.two p₁) (λ b p₂. after (draw 1 Three t.three p₂) (λ c p₃. Some (shares (first a) (first b) (first c), p₃)) None) None)
       None
 
-  pub each_in_turn : in_turn ≡ draw_each p t
+  pub each_in_turn : draw_each p t ≡ in_turn
   unfolding draw_each draw block
-  each_in_turn = go (has_word One) refl (has_word Two) refl (has_word Three) refl
+  each_in_turn = sym (go (has_word One) refl (has_word Two) refl (has_word Three) refl)
     where
       has_word : Party → Bool
       has_word i = leb 1 (length (tape i t) - count i p.drawn)
@@ -267,9 +267,9 @@ module _ (p : Place) (t : Tapes) where
   abbrev pub pairs_in_turn : Option ((Shares × Shares) × Place)
   pairs_in_turn = after (draw_each p t) (λ q p₁. after (draw_each p₁ t) (λ s p₂. Some ((q, s), p₂)) None) None
 
-  pub pairs_are_two : pairs_in_turn ≡ draw_pairs p t
+  pub pairs_are_two : draw_pairs p t ≡ pairs_in_turn
   unfolding draw_each draw_pairs block
-  pairs_are_two = go (enough n p t) refl (enough n (advance p n) t) refl
+  pairs_are_two = sym (go (enough n p t) refl (enough n (advance p n) t) refl)
     where
       n : Drawn
       n = counts 0 1 1 1
