@@ -182,6 +182,32 @@ module _ (k : ℕ) (i : Party) (l : List ℕ) (p : Place) where
   unfolding draw
   draw_some h = rw (le-leb k (length l - count i p.drawn) (omega (arith, h, length-drop (count i p.drawn) l)))
 
+  -- a draw after a draw is the draw of the words of both
+  pub draw-plus : (j : ℕ) → draw (j + k) i l p ≡ after (draw j i l p) (λ v q. after (draw k i l q) (λ w r. Some (v ++ w, r)) None) None
+  unfolding draw
+  draw-plus j = go (leb j (length l - count i p.drawn)) refl (leb k (length l - (count i p.drawn + j))) refl
+    where
+      moved_count : (m : Party) → count m (moved j m p).drawn ≡ count m p.drawn + j
+      moved_count Provider = refl
+      moved_count One = refl
+      moved_count Two = refl
+      moved_count Three = refl
+
+      moved_twice : (m : Party) → moved k m (moved j m p) ≡ moved (j + k) m p
+      moved_twice Provider = cc (add_assoc p.drawn.provider j k)
+      moved_twice One = cc (add_assoc p.drawn.one j k)
+      moved_twice Two = cc (add_assoc p.drawn.two j k)
+      moved_twice Three = cc (add_assoc p.drawn.three j k)
+
+      both : take (j + k) (drop (count i p.drawn) l) ≡ take j (drop (count i p.drawn) l) ++ take k (drop (count i p.drawn + j) l)
+      both = take-add j k (drop (count i p.drawn) l) ∙ ap (λ (w : List ℕ). take j (drop (count i p.drawn) l) ++ take k w) (drop-drop j (count i p.drawn) l)
+
+      go : (a : Bool) → leb j (length l - count i p.drawn) ≡ a → (b : Bool) → leb k (length l - (count i p.drawn + j)) ≡ b
+          → draw (j + k) i l p ≡ after (draw j i l p) (λ v q. after (draw k i l q) (λ w r. Some (v ++ w, r)) None) None
+      go false e b f = rw (nat_le-plus j k (length l) (count i p.drawn), e)
+      go true e false f = rw (nat_le-plus j k (length l) (count i p.drawn), e, moved_count i, f)
+      go true e true f = rw (nat_le-plus j k (length l) (count i p.drawn), e, ← moved_twice i, moved_count i, f, both)
+
 -- words of one tape alone
 abbrev pub only : Party → ℕ → Drawn
 only i k = with_count i k (counts 0 0 0 0)
