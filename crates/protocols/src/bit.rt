@@ -56,6 +56,7 @@ fn converted(s: u32, a: u32, b: u32) -> Shares
 }
 
 // On miner 1's tape alone, for miners 2 and 3 alone.
+#[tactic(auto, using(crate::proofs::Laws::Lent::bit_performs), unfolding(crate::specs::Bit::bit))]
 pub(crate) fn convert(
     u: Shares,
     j: u32,

@@ -141,6 +141,7 @@ fn joined(h: Held) -> Shares
 }
 
 // The dealing, with the masks of the first round sent on. (bar2, bar3 are document 01's R2, R3.)
+#[tactic(auto, unfolding(crate::specs::Bits::deal))]
 fn deal(u: Shares, words: &[u32; 3], q: Shares, t: Shares, lists: &mut Lists) -> Held
     requires { (2 ≤ length lists.old.one.now) × (5 ≤ length lists.old.two.now) × (5 ≤ length lists.old.three.now) }
     ensures same { Same lists.old lists.new }

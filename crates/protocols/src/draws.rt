@@ -9,6 +9,7 @@ use super::shares::Shares;
 
 impl Place {
     // A word of each miner's tape.
+    #[tactic(auto, using(crate::proofs::Laws::Draws::each_in_turn))]
     #[inline(always)]
     pub fn draw_each(self, tapes: &Tapes) -> Option<(Shares, Place)>
         ensures { result ≡ draw_each self (tapes_of tapes.now) }
@@ -26,6 +27,7 @@ impl Place {
     }
 
     // Two words of each miner's tape: the first ones, the second ones.
+    #[tactic(auto, using(crate::proofs::Laws::Draws::pairs_are_two))]
     #[inline(always)]
     pub fn draw_pairs(self, tapes: &Tapes) -> Option<((Shares, Shares), Place)>
         ensures { result ≡ draw_pairs self (tapes_of tapes.now) }

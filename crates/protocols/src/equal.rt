@@ -78,6 +78,7 @@ fn compared(d: Shares, r2: u32, r3: u32) -> Shares
 }
 
 // The comparison, with the masks of the first round sent on.
+#[tactic(auto, unfolding(crate::specs::Equal::compare))]
 fn compare(u: Shares, v: Shares, words: &[u32; 1], q: Shares, lists: &mut Lists) -> Folding
     requires { (1 ≤ length lists.old.one.now) × (2 ≤ length lists.old.two.now) × (2 ≤ length lists.old.three.now) }
     ensures same { Same lists.old lists.new }

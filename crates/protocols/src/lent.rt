@@ -28,6 +28,7 @@ pub struct Lists<'a> {
 
 impl Tapes<'_> {
     // Whether the miners' tapes have so many words left at the place.
+    #[tactic(auto, using(crate::proofs::Laws::Draws::enough_miners))]
     #[inline(always)]
     pub(crate) fn have(&self, place: Place, one: usize, two: usize, three: usize) -> bool
         ensures { result ≡ enough (counts 0 one two three) place (tapes_of self.now) }

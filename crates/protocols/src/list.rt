@@ -9,6 +9,7 @@ use super::lent::Lists;
 use super::shares::Shares;
 
 // Puts words at a place of a list.
+#[tactic(auto, using(crate::proofs::Laws::Puts::mid_sets))]
 #[inline(always)]
 pub(crate) fn put(list: &mut [u32], at: usize, words: &[u32])
     requires { at + length words.now ≤ length list.old }

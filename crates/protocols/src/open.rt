@@ -14,6 +14,7 @@ use super::shares::Shares;
 use super::{list, reshare, ring};
 
 // Fresh shares of a value go to the controller; the caller keeps the old ones.
+#[tactic(auto, using(crate::proofs::Laws::Lent::opening_performs), unfolding(crate::specs::Open::opening))]
 pub fn open(s: Shares, place: Place, tapes: &Tapes, lists: &mut Lists) -> Result<Done, Shortage>
     ensures same { Same lists.old lists.new }
     ensures done { delivered (outcome place result) (lists_of lists.new) ≡ delivery place (perform (opening (modulus 5)) s place (tapes_of tapes.now)) (lists_of lists.old) }
@@ -34,6 +35,7 @@ pub fn open(s: Shares, place: Place, tapes: &Tapes, lists: &mut Lists) -> Result
 }
 
 // The word that three shares add up to.
+#[tactic(auto, unfolding(crate::specs::Shares::sum_of))]
 pub fn total(s: Shares) -> u32
     ensures { result ≡ sum_of (modulus 5) s }
 {

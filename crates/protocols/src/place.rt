@@ -82,6 +82,7 @@ fn rest(tape: &[u32], used: usize) -> &[u32]
 
 impl Place {
     // The next N words of a party's tape with the moved place, or nothing where the tape is spent.
+    #[tactic(auto, using(crate::proofs::Laws::Draws::draw_some, crate::proofs::Laws::Draws::draw_none))]
     #[inline(always)]
     pub fn draw<'a, const N: usize>(
         self,

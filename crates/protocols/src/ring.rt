@@ -2,12 +2,14 @@
 ghost use Rattle.std.specs.Prelude.{◌≡◌};
 ghost use Rattle.protocols.specs.Word as word;
 
+#[tactic(auto, unfolding(crate::specs::Word::add))]
 pub fn add(a: u32, b: u32) -> u32
     ensures { result ≡ word.add (word.modulus 5) a b }
 {
     std::num::wrapping_add_u32(a, b)
 }
 
+#[tactic(auto, using(crate::proofs::Laws::Ring::sub_unique))]
 pub fn sub(a: u32, b: u32) -> u32
     ensures { result ≡ word.sub (word.modulus 5) a b }
 {
@@ -15,6 +17,7 @@ pub fn sub(a: u32, b: u32) -> u32
 }
 
 // The product of two words has 64 bits; its low half is kept.
+#[tactic(auto, unfolding(crate::specs::Word::mul))]
 pub fn mul(a: u32, b: u32) -> u32
     ensures { result ≡ word.mul (word.modulus 5) a b }
 {

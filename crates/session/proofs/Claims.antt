@@ -10,5 +10,5 @@ claims = record {
   entry_1 = entry_1;
   entry_2 = entry_2;
   entry_3 = λ cs s. machine-claims.entry_3_to_refusal_at_32 cs s.tables s.kinds s.received;
-  printed = λ n h. record { are_digits = are_digits n h; no_leading_zero = λ p. no_leading_zero n p h; spells = spells n h };
+  printed = λ n h. record { are_digits = are_digits n; no_leading_zero = λ p. no_leading_zero n p h; spells = spells n h };
 }

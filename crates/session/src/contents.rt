@@ -12,6 +12,7 @@ use machine::refusal::Refusal;
 const LIMITS: [u32; 6] = [384, 128, 256, 2304, 2304, 2304];
 
 // The words of the contents, where the file is of words and has them.
+#[tactic(auto, using(crate::proofs::Laws::Contents::contents_read))]
 fn read(file: &[u8]) -> Option<[u32; 12]>
     ensures { MatchOption result (spec.is_whole file.now ≡ false) (λ w. (spec.is_whole file.now ≡ true) × (w ≡ take 12 (words_of file.now))) }
 {

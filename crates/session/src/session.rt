@@ -15,6 +15,7 @@ pub const WORDS: usize = 7692;
 
 // Runs the file's commands from an empty place record, up to the first that is refused. The file's words are put at the front of
 // the lent ones; numbers 1 to 4 write nothing.
+#[tactic(auto, using(crate::proofs::Laws::Session::words_lent))]
 pub fn session(
     file: &[u8],
     words: &mut [u32],

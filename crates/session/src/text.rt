@@ -54,7 +54,7 @@ impl<'a> Text<'a> {
         self.put_bytes(digits.format(n).as_bytes());
     }
 
-    #[tactic(auto, using(crate::proofs::Laws::Text::spaced_front))]
+    #[tactic(auto, using(crate::proofs::Laws::Text::spaced_front, crate::proofs::Laws::Puts::adds_nothing), unfolding(crate::specs::Text::spaced))]
     fn put_numbers(&mut self, numbers: &[u64])
         requires { self.old.len + 21 * length numbers.now ≤ length self.old.out.now }
         ensures added { Adds self.old (spaced numbers.now) self.new }

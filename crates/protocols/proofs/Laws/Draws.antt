@@ -174,13 +174,39 @@ after None k z = z
 
 -- a draw by what is left of the tape
 module _ (k : ℕ) (i : Party) (l : List ℕ) (p : Place) where
-  pub draw-none : length (drop (count i p.drawn) l) < k → None ≡ draw k i l p
+  pub draw_none : length (drop (count i p.drawn) l) < k → draw k i l p ≡ None
   unfolding draw
-  draw-none h = rw (lt-leb k (length l - count i p.drawn) (omega (arith, h, length-drop (count i p.drawn) l)))
+  draw_none h = rw (lt-leb k (length l - count i p.drawn) (omega (arith, h, length-drop (count i p.drawn) l)))
 
-  pub draw-some : k ≤ length (drop (count i p.drawn) l) → Some (take k (drop (count i p.drawn) l), moved k i p) ≡ draw k i l p
+  pub draw_some : k ≤ length (drop (count i p.drawn) l) → draw k i l p ≡ Some (take k (drop (count i p.drawn) l), moved k i p)
   unfolding draw
-  draw-some h = rw (le-leb k (length l - count i p.drawn) (omega (arith, h, length-drop (count i p.drawn) l)))
+  draw_some h = rw (le-leb k (length l - count i p.drawn) (omega (arith, h, length-drop (count i p.drawn) l)))
+
+  -- a draw after a draw is the draw of the words of both
+  pub draw-plus : (j : ℕ) → draw (j + k) i l p ≡ after (draw j i l p) (λ v q. after (draw k i l q) (λ w r. Some (v ++ w, r)) None) None
+  unfolding draw
+  draw-plus j = go (leb j (length l - count i p.drawn)) refl (leb k (length l - (count i p.drawn + j))) refl
+    where
+      moved_count : (m : Party) → count m (moved j m p).drawn ≡ count m p.drawn + j
+      moved_count Provider = refl
+      moved_count One = refl
+      moved_count Two = refl
+      moved_count Three = refl
+
+      moved_twice : (m : Party) → moved k m (moved j m p) ≡ moved (j + k) m p
+      moved_twice Provider = cc (add_assoc p.drawn.provider j k)
+      moved_twice One = cc (add_assoc p.drawn.one j k)
+      moved_twice Two = cc (add_assoc p.drawn.two j k)
+      moved_twice Three = cc (add_assoc p.drawn.three j k)
+
+      both : take (j + k) (drop (count i p.drawn) l) ≡ take j (drop (count i p.drawn) l) ++ take k (drop (count i p.drawn + j) l)
+      both = take-add j k (drop (count i p.drawn) l) ∙ ap (λ (w : List ℕ). take j (drop (count i p.drawn) l) ++ take k w) (drop-drop j (count i p.drawn) l)
+
+      go : (a : Bool) → leb j (length l - count i p.drawn) ≡ a → (b : Bool) → leb k (length l - (count i p.drawn + j)) ≡ b
+          → draw (j + k) i l p ≡ after (draw j i l p) (λ v q. after (draw k i l q) (λ w r. Some (v ++ w, r)) None) None
+      go false e b f = rw (nat_le-plus j k (length l) (count i p.drawn), e)
+      go true e false f = rw (nat_le-plus j k (length l) (count i p.drawn), e, moved_count i, f)
+      go true e true f = rw (nat_le-plus j k (length l) (count i p.drawn), e, ← moved_twice i, moved_count i, f, both)
 
 -- words of one tape alone
 abbrev pub only : Party → ℕ → Drawn
@@ -242,9 +268,9 @@ module _ (p : Place) (t : Tapes) where
       (λ a p₁. after (draw 1 Two t.two p₁) (λ b p₂. after (draw 1 Three t.three p₂) (λ c p₃. Some (shares (first a) (first b) (first c), p₃)) None) None)
       None
 
-  pub each_in_turn : in_turn ≡ draw_each p t
+  pub each_in_turn : draw_each p t ≡ in_turn
   unfolding draw_each draw block
-  each_in_turn = go (has_word One) refl (has_word Two) refl (has_word Three) refl
+  each_in_turn = sym (go (has_word One) refl (has_word Two) refl (has_word Three) refl)
     where
       has_word : Party → Bool
       has_word i = leb 1 (length (tape i t) - count i p.drawn)
@@ -267,9 +293,9 @@ module _ (p : Place) (t : Tapes) where
   abbrev pub pairs_in_turn : Option ((Shares × Shares) × Place)
   pairs_in_turn = after (draw_each p t) (λ q p₁. after (draw_each p₁ t) (λ s p₂. Some ((q, s), p₂)) None) None
 
-  pub pairs_are_two : pairs_in_turn ≡ draw_pairs p t
+  pub pairs_are_two : draw_pairs p t ≡ pairs_in_turn
   unfolding draw_each draw_pairs block
-  pairs_are_two = go (enough n p t) refl (enough n (advance p n) t) refl
+  pairs_are_two = sym (go (enough n p t) refl (enough n (advance p n) t) refl)
     where
       n : Drawn
       n = counts 0 1 1 1

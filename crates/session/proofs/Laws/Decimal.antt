@@ -1,12 +1,15 @@
 -- The decimal form of a number: it spells the number, in digits, and starts with no zero.
-use Prim.Native.Nat.{ℕ, ◌^◌, ◌≤◌, ◌<◌}
+use Prim.Native.Nat.{ℕ, zero, suc, ◌+◌, ◌/◌, ◌^◌, ◌≤◌, ◌<◌}
 use mathlib.Core.Path.{◌≡◌}
+use mathlib.Core.List.{List, [], ◌∷◌, ◌++◌}
+use native.Mathlib.Decide.{dec_lt}
+use native.Mathlib.Omega.{arith}
 use lib.ListN.{length, get_or}
 use Rattle.std.proofs.Common.{rules}
-use Rattle.std.proofs.lemmas.Fmt.{digits_decimal, digits_value-decimal, first_decimal}
+use Rattle.std.proofs.lemmas.Fmt.{digits_value-decimal, first_decimal}
 use Rattle.std.proofs.lemmas.Str.Parse.{IsNumeralModel, numerals_by_fold, tells_by_index}
-use Rattle.session.specs.Text.{decimal, value_of}
-use Rattle.session.proofs.Laws.Digits.{decimal_is}
+use Rattle.session.specs.Text.{last_digit, digits, decimal, value_of}
+use Rattle.session.proofs.Laws.Digits.{appends, decimal_is}
 
 -- the library's words for digits and their value, in those of the claim
 own : IsNumeralModel (λ l. (i : ℕ) → i < length l → (48 ≤ get_or l i 0) × (get_or l i 0 ≤ 57)) (value_of 0)
@@ -16,8 +19,28 @@ own = numerals_by_fold _ tells_by_index value_of (search rules)
 pub spells : (n : ℕ) → n < 2 ^ 64 → value_of 0 (decimal n) ≡ n
 spells n h = rw (decimal_is n h) (digits_value-decimal own n h)
 
-pub are_digits : (n : ℕ) → n < 2 ^ 64 → (i : ℕ) → i < length (decimal n) → (48 ≤ get_or (decimal n) i 0) × (get_or (decimal n) i 0 ≤ 57)
-are_digits n h = rw (decimal_is n h) (digits_decimal own n h)
+-- ---- its digits
+
+abbrev AreDigits : List ℕ → Type 0
+AreDigits l = (i : ℕ) → i < length l → (48 ≤ get_or l i 0) × (get_or l i 0 ≤ 57)
+
+with_last : (l : List ℕ) (d : ℕ) → AreDigits l → (48 ≤ d) × (d ≤ 57) → AreDigits (l ++ (d ∷ []))
+with_last [] d f p zero h = p
+with_last [] d f p (suc i) h = let w : ⊥ = omega arith in absurd w
+with_last (a ∷ l) d f p zero h = f 0 (omega arith)
+with_last (a ∷ l) d f p (suc i) h = with_last l d (λ j g. f (suc j) (omega arith)) p i (omega arith)
+
+digits_are : (k n : ℕ) → AreDigits (digits k n)
+unfolding digits
+digits_are zero n = λ i h. let w : ⊥ = omega arith in absurd w
+digits_are (suc k) n = by_size (dec_lt n 10) (digits_are k (n / 10))
+  where
+    by_size : Dec (n < 10) → AreDigits (digits k (n / 10)) → AreDigits (digits (suc k) n)
+    by_size (yes one) f = rw (appends.one k n one) (with_last [] (48 + n) (λ i h. let w : ⊥ = omega arith in absurd w) (omega arith))
+    by_size (no more) f = rw (appends.more k n (omega arith)) (with_last (digits k (n / 10)) (last_digit n) f (omega arith))
+
+pub are_digits : (n i : ℕ) → i < length (decimal n) → (48 ≤ get_or (decimal n) i 0) × (get_or (decimal n) i 0 ≤ 57)
+are_digits n = digits_are 20 n
 
 pub no_leading_zero : (n : ℕ) → 0 < n → n < 2 ^ 64 → 48 < get_or (decimal n) 0 0
 no_leading_zero n p h = rw (decimal_is n h) (first_decimal n p h)

@@ -10,7 +10,7 @@ use Rattle.std.specs.Fmt.{decimal as printed}
 use Rattle.std.proofs.lemmas.Fmt.{AppendsLastDigit, decimal_from_appends, length-decimal-le}
 use Rattle.session.specs.Text.{last_digit, digits, decimal}
 
-appends : AppendsLastDigit digits
+pub appends : AppendsLastDigit digits
 unfolding digits
 appends = search rules
 

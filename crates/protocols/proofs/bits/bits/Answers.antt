@@ -1,5 +1,4 @@
 -- `protocols::bits::bits` meets its contract.
-use Rattle.std.proofs.Common.{sym, ◌∙◌}
 use Rattle.protocols.specs.Place.{counts}
 use Rattle.protocols.specs.Counts.{received}
 use Rattle.protocols.specs.Lent.{tapes_of, lists_of}
@@ -13,16 +12,16 @@ pub returns-then-not-have-clause-done : goal.returns-then-not-have-clause-done
 returns-then-not-have-clause-done c =
     let a = c.args in
     words_lack (bits 5) (counts 0 15 12 12) table_at_32.bits_row.drawn a.u a.place (tapes_of a.tapes.now) (lists_of a.lists.now)
-    (sym c.have.ensures ∙ c.if-not-have.true)
+    (cc)
 
 pub returns-then-not-have_room-clause-done : goal.returns-then-not-have_room-clause-done
 returns-then-not-have_room-clause-done c =
     let a = c.args in
     room_lacks (bits 5) (counts 0 15 12 12) table_at_32.bits_row.drawn a.u a.place (tapes_of a.tapes.now) (lists_of a.lists.now)
-    (received 22 25 25 0) table_at_32.bits_row.long (sym c.have.ensures ∙ c.if-not-have.false)
-    (sym c.have_room.ensures ∙ c.if-not-have_room.true)
+    (received 22 25 25 0) table_at_32.bits_row.long (cc)
+    (cc)
 
 pub rounds-requires : goal.rounds-requires
 rounds-requires c =
-    let h = rooms 22 25 25 (lists_of c.args.lists.now) (sym c.have_room.ensures ∙ c.if-not-have_room.false) in
-    (rw table_at_32.bits_row.drawn (sym c.have.ensures ∙ c.if-not-have.false), h.0, h.1, h.2)
+    let h = rooms 22 25 25 (lists_of c.args.lists.now) (cc) in
+    (rw table_at_32.bits_row.drawn (cc), h.0, h.1, h.2)

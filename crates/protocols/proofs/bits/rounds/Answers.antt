@@ -19,7 +19,7 @@ returns-in_default-draw_pairs-clause-done c =
     let a = c.args in
     let t = tapes_of a.tapes.now in
     let e =
-    rounds_unmasked 5 a.u a.place t (sym c.draw.ensures ∙ ap drawn c.in-Some.is) (sym c.draw_pairs.ensures ∙ c.in_default-draw_pairs.is) in
+    rounds_unmasked 5 a.u a.place t (sym c.draw.ensures ∙ ap drawn c.in-Some.is) (cc) in
     not_spent (bits 5) a.u a.place t c.requires.0 (bits-spent 5 _ _ _ 0 (omega arith) e) _
 
 pub loop-k-init : goal.loop-k-init
@@ -27,7 +27,7 @@ loop-k-init c =
     let a = c.args in
     let d =
     rounds-begun 5 a.u a.place (tapes_of a.tapes.now) (sym c.draw.ensures ∙ ap drawn c.in-Some.is) _ _
-    (sym c.draw_pairs.ensures ∙ c.in-Some-draw_pairs.is) (lists_of a.lists.now) _ c.deal-held.result c.deal-held.ensures.dealt in
+    (cc) (lists_of a.lists.now) _ c.deal-held.result c.deal-held.ensures.dealt in
     record { same = c.deal-held.ensures.same; room = room_kept d (c.requires.1, c.requires.2, c.requires.3); done = d }
 
 pub returns-in_default-draw_pairs-2-clause-done : goal.returns-in_default-draw_pairs-2-clause-done
@@ -36,14 +36,14 @@ returns-in_default-draw_pairs-2-clause-done c =
     let t = tapes_of a.tapes.now in
     let e =
     rounds-stopped 5 a.u a.place t c.loop-k.k c.loop-k.invariant.done
-    (sym c.draw_pairs-in-loop-k.ensures ∙ c.in_default-draw_pairs-2.is) in
+    (cc) in
     not_spent (bits 5) a.u a.place t c.requires.0 (bits-spent 5 _ _ _ (c.loop-k.k + 1) (omega arith) e) _
 
 pub loop-k-preserved : goal.loop-k-preserved
 loop-k-preserved c =
     let d =
     rounds_more 5 c.args.u _ _ c.loop-k.k c.loop-k.invariant.done _ _
-    (sym c.draw_pairs-in-loop-k.ensures ∙ c.in-Some-draw_pairs-2.is) _ c.round-held.result c.round-held.ensures.carried in
+    (cc) _ c.round-held.result c.round-held.ensures.carried in
     record { same = search; room = room_kept d (c.requires.1, c.requires.2, c.requires.3); done = d }
 
 pub returns-clause-done : goal.returns-clause-done

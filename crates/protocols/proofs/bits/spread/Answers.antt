@@ -1,21 +1,14 @@
 -- `protocols::bits::spread` meets its contract.
 use Rattle.std.proofs.Common.{◌≡◌, ℕ, ◌<◌, [], ◌∷◌, slice_index_or, refl}
-use lib.Pow.{pow-lt}
 use Rattle.protocols.specs.WordForm.{sources, spread}
 use Rattle.protocols.proofs.Laws.Rounds.{each_round}
-use Rattle.protocols.proofs.Laws.WordForm.{stride, spread-le}
+use Rattle.protocols.proofs.Laws.WordForm.{stride}
 use Rattle.protocols.proofs.bits.spread.Goals as goal
 
 -- the table lists the sources
 listed : (k : ℕ) → k < 5 → slice_index_or (1431655765 ∷ 572662306 ∷ 134744072 ∷ 8388736 ∷ 32768 ∷ []) k 0 ≡ sources 5 k
 unfolding sources
 listed = each_round _ refl refl refl refl refl
-
-pub overflow_shl-result-2 : goal.overflow_shl-result-2
-overflow_shl-result-2 c = rw (stride c.args.k c.requires) (pow-lt c.requires)
-
-pub overflow_sub-result : goal.overflow_sub-result
-overflow_sub-result c = rw (stride c.args.k c.requires, listed c.args.k c.requires) (spread-le 5 c.args.k c.args.x c.requires)
 
 pub returns : goal.returns
 unfolding spread

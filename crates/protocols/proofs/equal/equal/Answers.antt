@@ -1,5 +1,4 @@
 -- `protocols::equal::equal` meets its contract.
-use Rattle.std.proofs.Common.{sym, ◌∙◌}
 use Rattle.protocols.specs.Shares.{operands}
 use Rattle.protocols.specs.Place.{counts}
 use Rattle.protocols.specs.Counts.{received}
@@ -14,16 +13,16 @@ pub returns-then-not-have-clause-done : goal.returns-then-not-have-clause-done
 returns-then-not-have-clause-done c =
     let a = c.args in
     words_lack (equal 5) (counts 0 10 6 6) table_at_32.equal_row.drawn (operands a.u a.v) a.place (tapes_of a.tapes.now)
-    (lists_of a.lists.now) (sym c.have.ensures ∙ c.if-not-have.true)
+    (lists_of a.lists.now) (cc)
 
 pub returns-then-not-have_room-clause-done : goal.returns-then-not-have_room-clause-done
 returns-then-not-have_room-clause-done c =
     let a = c.args in
     room_lacks (equal 5) (counts 0 10 6 6) table_at_32.equal_row.drawn (operands a.u a.v) a.place (tapes_of a.tapes.now)
-    (lists_of a.lists.now) (received 11 15 15 0) table_at_32.equal_row.long (sym c.have.ensures ∙ c.if-not-have.false)
-    (sym c.have_room.ensures ∙ c.if-not-have_room.true)
+    (lists_of a.lists.now) (received 11 15 15 0) table_at_32.equal_row.long (cc)
+    (cc)
 
 pub folds-requires : goal.folds-requires
 folds-requires c =
-    let h = rooms 11 15 15 (lists_of c.args.lists.now) (sym c.have_room.ensures ∙ c.if-not-have_room.false) in
-    (rw table_at_32.equal_row.drawn (sym c.have.ensures ∙ c.if-not-have.false), h.0, h.1, h.2)
+    let h = rooms 11 15 15 (lists_of c.args.lists.now) (cc) in
+    (rw table_at_32.equal_row.drawn (cc), h.0, h.1, h.2)

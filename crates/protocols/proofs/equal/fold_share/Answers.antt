@@ -1,6 +1,5 @@
 -- `protocols::equal::fold_share` meets its contract.
 use Rattle.std.proofs.Common.{◌≡◌, ℕ, ◌<◌, [], ◌∷◌, slice_index_or, refl}
-use lib.Pow.{pow-lt}
 use Rattle.protocols.specs.Word.{of_bits}
 use Rattle.protocols.specs.WordForm.{heads, others, word_fold}
 use Rattle.protocols.proofs.Laws.Rounds.{each_round}
@@ -16,12 +15,6 @@ others_listed : (k : ℕ) → k < 5
     → slice_index_or (2863311530 ∷ 4008636142 ∷ 4278124286 ∷ 4294901758 ∷ 4294967294 ∷ []) k 0 ≡ others 5 k
 unfolding others of_bits
 others_listed = each_round _ refl refl refl refl refl
-
-pub overflow_shr-p : goal.overflow_shr-p
-overflow_shr-p c = rw (stride c.args.k c.requires) (pow-lt c.requires)
-
-pub overflow_shr-x : goal.overflow_shr-x
-overflow_shr-x c = rw (stride c.args.k c.requires) (pow-lt c.requires)
 
 pub returns : goal.returns
 unfolding word_fold

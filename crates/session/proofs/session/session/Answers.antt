@@ -10,14 +10,6 @@ use Rattle.session.proofs.session.session.Goals as goal
 pub returns-in-Err-clause-done : goal.returns-in-Err-clause-done
 returns-in-Err-clause-done c = session-turned_down c.args.file.now c.args.words.now _ c.in-Err.refusal c.in-Err.ensures c.refused.result c.refused.ensures
 
-pub decode-requires : goal.decode-requires
-decode-requires c = words_lent c.args.file.now c.args.words.now _ (sym c.in_default.ensures)
-
-pub slice_bounds-run_words-end : goal.slice_bounds-run_words-end
-slice_bounds-run_words-end c =
-    let fit = words_lent c.args.file.now c.args.words.now _ (sym c.in_default.ensures) in
-    omega (arith, c.decode.auto.words, fit)
-
 pub slice_bounds-run_words-end-2 : goal.slice_bounds-run_words-end-2
 slice_bounds-run_words-end-2 c =
     let fit = words_lent c.args.file.now c.args.words.now _ (sym c.in_default.ensures) in

@@ -1,14 +1,9 @@
 -- `session::text::Text::put_numbers` meets its contract.
 use Rattle.std.proofs.Common.{◌<◌, length, arith}
 use Rattle.std.proofs.lemmas.List.{take_more}
-use Rattle.session.specs.Text.{spaced}
-use Rattle.session.proofs.Laws.Puts.{adds_nothing, adds_then}
+use Rattle.session.proofs.Laws.Puts.{adds_then}
 use Rattle.session.proofs.Laws.Text.{spaced-append}
 use Rattle.session.proofs.text.Text.put_numbers.Goals as goal
-
-pub loop-n-init : goal.loop-n-init
-unfolding spaced
-loop-n-init c = adds_nothing (omega arith)
 
 pub loop-n-preserved : goal.loop-n-preserved
 loop-n-preserved c =
