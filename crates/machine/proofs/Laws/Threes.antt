@@ -7,7 +7,8 @@ use lib.ListN.{length, get_or, drop, length-drop}
 use Rattle.std.specs.Simd.{first_chunks}
 use Rattle.machine.specs.declared.code.Command.{Command}
 use Rattle.machine.specs.Table.{command}
-use Rattle.machine.specs.Run.{commands_of}
+use Rattle.protocols.specs.Shares.{shares, sum_of}
+use Rattle.machine.specs.Run.{commands_of, sums_in_threes}
 
 pub drop_short : (l : List ℕ) (j : ℕ) → length l ≤ j + 2 → length (drop j l) < 3
 drop_short l j h = omega (arith, length-drop j l)
@@ -35,6 +36,17 @@ commands_cut [] = refl
 commands_cut (x ∷ []) = refl
 commands_cut (x ∷ y ∷ []) = refl
 commands_cut (x ∷ y ∷ z ∷ l) = rw (three_more (length l)) (ap (λ (cs : List Command). command x y z ∷ cs) (commands_cut l))
+
+-- the word that three shares add up to
+abbrev pub sum_in : ℕ → List ℕ → ℕ
+sum_in m s = sum_of m (shares (get_or s 0 0) (get_or s 1 0) (get_or s 2 0))
+
+pub sums_cut : (m : ℕ) (l : List ℕ) → sums_in_threes m l ≡ map (sum_in m) (first_chunks 3 (length l / 3) l)
+unfolding sums_in_threes
+sums_cut m [] = refl
+sums_cut m (x ∷ []) = refl
+sums_cut m (x ∷ y ∷ []) = refl
+sums_cut m (x ∷ y ∷ z ∷ l) = rw (three_more (length l)) (ap (λ (ws : List ℕ). sum_of m (shares x y z) ∷ ws) (sums_cut m l))
 
 -- three words are one command
 pub commands-one : (code a b : ℕ) → commands_of (code ∷ a ∷ b ∷ []) ≡ command code a b ∷ []
