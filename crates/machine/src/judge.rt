@@ -87,9 +87,7 @@ fn kind_of(filled: &[u32], h: u32) -> Option<u32>
 fn operand(h: u32, kind: Kind, filled: &[u32]) -> Result<(), Refusal>
     ensures { number_of result ≡ check 7 (spec.filled (holding filled.now) h) (check 8 (nat_eq (entry filled.now h) (kind_number kind)) 0) }
 {
-    let Some(found) = kind_of(filled, h) else {
-        return Err(Refusal::HandleNotFilled);
-    };
+    let found = kind_of(filled, h).ok_or(Refusal::HandleNotFilled)?;
     if found != u32::from(kind) {
         return Err(Refusal::WrongKind);
     }
@@ -100,9 +98,8 @@ fn operand(h: u32, kind: Kind, filled: &[u32]) -> Result<(), Refusal>
 fn pair(c: Command, filled: &[u32]) -> Result<(), Refusal>
     ensures { number_of result ≡ check 7 (spec.filled (holding filled.now) c.a && spec.filled (holding filled.now) c.b) (check 8 (nat_eq (entry filled.now c.a) 1 && nat_eq (entry filled.now c.b) 1) 0) }
 {
-    let (Some(kind_a), Some(kind_b)) = (kind_of(filled, c.a), kind_of(filled, c.b)) else {
-        return Err(Refusal::HandleNotFilled);
-    };
+    let kind_a = kind_of(filled, c.a).ok_or(Refusal::HandleNotFilled)?;
+    let kind_b = kind_of(filled, c.b).ok_or(Refusal::HandleNotFilled)?;
     let ring = u32::from(Kind::RingValue);
     if !((kind_a == ring) & (kind_b == ring)) {
         return Err(Refusal::WrongKind);

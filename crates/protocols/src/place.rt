@@ -92,9 +92,7 @@ impl Place {
         ensures { drawn result ≡ draw N party tape.now self }
     {
         let at = self.drawn.of(party);
-        let Some(words) = rest(tape, at).first_chunk::<N>() else {
-            return None;
-        };
+        let words = rest(tape, at).first_chunk::<N>()?;
         let drawn = self.drawn.with(party, at + N);
         Some((words, Place { drawn, ..self }))
     }
