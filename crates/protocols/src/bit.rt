@@ -67,9 +67,9 @@ pub(crate) fn convert(
 ) -> Result<Done, Shortage>
     ensures { delivered (outcome place result) (lists [] list2.new list3.new []) ≡ delivery place (perform (spec.bit (modulus 5) j) u place (tapes [] tape1.now [] [])) (lists [] list2.old list3.old []) }
 {
-    let (&[word_b, m12, word_b12], next) = place
-        .draw::<3>(Party::One, tape1)
-        .ok_or(Shortage::TapeSpent)?;
+    let Some((&[word_b, m12, word_b12], next)) = place.draw::<3>(Party::One, tape1) else {
+        return Err(Shortage::TapeSpent);
+    };
     if !((3 <= list2.len()) & (3 <= list3.len())) {
         return Err(Shortage::ListFull);
     }

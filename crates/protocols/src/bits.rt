@@ -182,14 +182,18 @@ pub(crate) fn rounds(
     ensures room { (22 ≤ length lists.new.one.now) × (25 ≤ length lists.new.two.now) × (25 ≤ length lists.new.three.now) }
     ensures done { delivered (outcome place result) (lists_of lists.new) ≡ delivery place (perform (spec.bits 5) u place (tapes_of tapes.now)) (lists_of lists.old) }
 {
-    let (words, dealt_at) = place
-        .draw::<3>(Party::One, tapes.one)
-        .ok_or(Shortage::TapeSpent)?;
-    let ((q, t), begun_at) = dealt_at.draw_pairs(tapes).ok_or(Shortage::TapeSpent)?;
+    let Some((words, dealt_at)) = place.draw::<3>(Party::One, tapes.one) else {
+        return Err(Shortage::TapeSpent);
+    };
+    let Some(((q, t), begun_at)) = dealt_at.draw_pairs(tapes) else {
+        return Err(Shortage::TapeSpent);
+    };
     let mut held = deal(u, words, q, t, lists);
     let mut at = begun_at;
     for k in 0..5 {
-        let ((q, t), next) = at.draw_pairs(tapes).ok_or(Shortage::TapeSpent)?;
+        let Some(((q, t), next)) = at.draw_pairs(tapes) else {
+            return Err(Shortage::TapeSpent);
+        };
         held = round(k, held, q, t, lists);
         at = next;
     }

@@ -14,9 +14,15 @@ impl Place {
     pub fn draw_each(self, tapes: &Tapes) -> Option<(Shares, Place)>
         ensures { result ≡ draw_each self (tapes_of tapes.now) }
     {
-        let (&[one], place1) = self.draw::<1>(Party::One, tapes.one)?;
-        let (&[two], place2) = place1.draw::<1>(Party::Two, tapes.two)?;
-        let (&[three], place3) = place2.draw::<1>(Party::Three, tapes.three)?;
+        let Some((&[one], place1)) = self.draw::<1>(Party::One, tapes.one) else {
+            return None;
+        };
+        let Some((&[two], place2)) = place1.draw::<1>(Party::Two, tapes.two) else {
+            return None;
+        };
+        let Some((&[three], place3)) = place2.draw::<1>(Party::Three, tapes.three) else {
+            return None;
+        };
         Some((Shares { one, two, three }, place3))
     }
 
@@ -26,8 +32,12 @@ impl Place {
     pub fn draw_pairs(self, tapes: &Tapes) -> Option<((Shares, Shares), Place)>
         ensures { result ≡ draw_pairs self (tapes_of tapes.now) }
     {
-        let (first, place1) = self.draw_each(tapes)?;
-        let (second, place2) = place1.draw_each(tapes)?;
+        let Some((first, place1)) = self.draw_each(tapes) else {
+            return None;
+        };
+        let Some((second, place2)) = place1.draw_each(tapes) else {
+            return None;
+        };
         Some(((first, second), place2))
     }
 }

@@ -120,14 +120,18 @@ fn folds(
     ensures same { Same lists.old lists.new }
     ensures done { delivered (outcome place result) (lists_of lists.new) ≡ delivery place (perform (spec.equal 5) (operands u v) place (tapes_of tapes.now)) (lists_of lists.old) }
 {
-    let (words, compared_at) = place
-        .draw::<1>(Party::One, tapes.one)
-        .ok_or(Shortage::TapeSpent)?;
-    let (q, begun_at) = compared_at.draw_each(tapes).ok_or(Shortage::TapeSpent)?;
+    let Some((words, compared_at)) = place.draw::<1>(Party::One, tapes.one) else {
+        return Err(Shortage::TapeSpent);
+    };
+    let Some((q, begun_at)) = compared_at.draw_each(tapes) else {
+        return Err(Shortage::TapeSpent);
+    };
     let mut held = compare(u, v, words, q, lists);
     let mut at = begun_at;
     for k in 0..5 {
-        let (q, next) = at.draw_each(tapes).ok_or(Shortage::TapeSpent)?;
+        let Some((q, next)) = at.draw_each(tapes) else {
+            return Err(Shortage::TapeSpent);
+        };
         held = round(k, held, q, lists);
         at = next;
     }

@@ -42,7 +42,9 @@ pub fn multiply(
     ensures same { Same lists.old lists.new }
     ensures done { delivered (outcome place result) (lists_of lists.new) ≡ delivery place (perform (spec.multiply (modulus 5)) (operands u v) place (tapes_of tapes.now)) (lists_of lists.old) }
 {
-    let ((r, s), next) = place.draw_pairs(tapes).ok_or(Shortage::TapeSpent)?;
+    let Some(((r, s), next)) = place.draw_pairs(tapes) else {
+        return Err(Shortage::TapeSpent);
+    };
     if !lists.have_room(4, 4, 4, 0) {
         return Err(Shortage::ListFull);
     }

@@ -19,7 +19,9 @@ pub fn open(s: Shares, place: Place, tapes: &Tapes, lists: &mut Lists) -> Result
     ensures same { Same lists.old lists.new }
     ensures done { delivered (outcome place result) (lists_of lists.new) ≡ delivery place (perform (opening (modulus 5)) s place (tapes_of tapes.now)) (lists_of lists.old) }
 {
-    let (r, next) = place.draw_each(tapes).ok_or(Shortage::TapeSpent)?;
+    let Some((r, next)) = place.draw_each(tapes) else {
+        return Err(Shortage::TapeSpent);
+    };
     if !lists.have_room(1, 1, 1, 3) {
         return Err(Shortage::ListFull);
     }

@@ -81,7 +81,8 @@ fn rest(tape: &[u32], used: usize) -> &[u32]
 }
 
 impl Place {
-    // The next N words of a party's tape with the moved place, or nothing where the tape is spent.
+    // The next N words of a party's tape with the moved place, or nothing where the tape is spent. (Document 01 has each draw taken apart by
+    // `let .. else`, and the spent case return early: so no `?` here and in what draws.)
     #[tactic(auto, using(crate::proofs::Laws::Draws::draw_some, crate::proofs::Laws::Draws::draw_none))]
     #[inline(always)]
     pub fn draw<'a, const N: usize>(
@@ -92,7 +93,9 @@ impl Place {
         ensures { drawn result ≡ draw N party tape.now self }
     {
         let at = self.drawn.of(party);
-        let words = rest(tape, at).first_chunk::<N>()?;
+        let Some(words) = rest(tape, at).first_chunk::<N>() else {
+            return None;
+        };
         let drawn = self.drawn.with(party, at + N);
         Some((words, Place { drawn, ..self }))
     }

@@ -25,7 +25,9 @@ pub fn reshare(s: Shares, place: Place, tapes: &Tapes, lists: &mut Lists) -> Res
     ensures same { Same lists.old lists.new }
     ensures done { delivered (outcome place result) (lists_of lists.new) ≡ delivery place (perform (spec.reshare (modulus 5)) s place (tapes_of tapes.now)) (lists_of lists.old) }
 {
-    let (r, next) = place.draw_each(tapes).ok_or(Shortage::TapeSpent)?;
+    let Some((r, next)) = place.draw_each(tapes) else {
+        return Err(Shortage::TapeSpent);
+    };
     if !lists.have_room(1, 1, 1, 0) {
         return Err(Shortage::ListFull);
     }

@@ -18,9 +18,9 @@ pub fn store(v: u32, place: Place, tapes: &Tapes, lists: &mut Lists) -> Result<D
     ensures same { Same lists.old lists.new }
     ensures done { delivered (outcome place result) (lists_of lists.new) ≡ delivery place (perform (spec.store (modulus 5)) v place (tapes_of tapes.now)) (lists_of lists.old) }
 {
-    let (&[s1, s2], next) = place
-        .draw::<2>(Party::Provider, tapes.provider)
-        .ok_or(Shortage::TapeSpent)?;
+    let Some((&[s1, s2], next)) = place.draw::<2>(Party::Provider, tapes.provider) else {
+        return Err(Shortage::TapeSpent);
+    };
     if !lists.have_room(1, 1, 1, 0) {
         return Err(Shortage::ListFull);
     }
