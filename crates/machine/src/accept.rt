@@ -138,7 +138,7 @@ pub(crate) fn accept(
     ensures same_lists { Same lists.old lists.new }
     ensures decided { let l = lent_of tables.old inputs.now tapes.now lists.old in command.outcome (answer_of place result) (lent_of tables.new inputs.now tapes.now lists.new) ≡ decided 5 (supplied (row 5 code) place (sizes l) (verdict.Accepted code)) c place l }
 {
-    let g = Given::of(c, place, tables, inputs);
+    let g = tables.given(c, place, inputs);
     if let Some(shares) = play::make_alone(code, c.b, g) {
         return Ok(store_value(shares, place, tables));
     }

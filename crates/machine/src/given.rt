@@ -1,6 +1,6 @@
 // What a command works on.
 ghost use Rattle.std.specs.Prelude.{◌≡◌};
-ghost use Rattle.machine.specs.Lent.{tables_of};
+ghost use Rattle.machine.specs.Lent.{tables, tables_of};
 ghost use Rattle.machine.specs.Command.{given};
 
 use super::code::Command;
@@ -18,13 +18,30 @@ pub struct Given {
 }
 
 impl Given {
-    pub fn of(c: Command, p: Place, tables: &Tables, inputs: &[u32]) -> Given
-        ensures { result ≡ given (tables_of tables.now) inputs.now p c }
+    // From tables that are only read.
+    pub fn of(
+        c: Command,
+        p: Place,
+        one: &[u32],
+        two: &[u32],
+        three: &[u32],
+        inputs: &[u32],
+    ) -> Given
+        ensures { result ≡ given (tables one.now two.now three.now) inputs.now p c }
     {
         Given {
             input: lent::read(inputs, p.inputs),
-            u: tables.shares_at(c.a),
-            v: tables.shares_at(c.b),
+            u: lent::shares_at(one, two, three, c.a),
+            v: lent::shares_at(one, two, three, c.b),
         }
+    }
+}
+
+impl Tables<'_> {
+    // What a command works on, of the lent tables.
+    pub(crate) fn given(&self, c: Command, p: Place, inputs: &[u32]) -> Given
+        ensures { result ≡ given (tables_of self.now) inputs.now p c }
+    {
+        Given::of(c, p, self.one, self.two, self.three, inputs)
     }
 }

@@ -1,9 +1,11 @@
 // What is lent to a command.
 ghost use Rattle.std.specs.Prelude.{◌≡◌, get_or};
-ghost use Rattle.machine.specs.Lent.{shares_at, tables_of, lent_of, sizes};
+ghost use Rattle.protocols.specs.Place.{lists};
+ghost use Rattle.protocols.specs.Lent.{tapes_of};
+ghost use Rattle.machine.specs.Lent.{shares_at, tables, lent, sizes};
 ghost use Rattle.machine.specs.Lent as spec;
 
-use protocols::lent::{Lists, Tapes};
+use protocols::lent::Tapes;
 use protocols::place::{Drawn, Received};
 use protocols::shares::Shares;
 
@@ -24,17 +26,6 @@ impl Tables<'_> {
     {
         self.kinds
     }
-
-    // The three shares of a handle.
-    pub fn shares_at(&self, h: u32) -> Shares
-        ensures { result ≡ shares_at (tables_of self.now) h }
-    {
-        Shares {
-            one: entry(self.one, h),
-            two: entry(self.two, h),
-            three: entry(self.three, h),
-        }
-    }
 }
 
 // The lengths of all lent lists: three share tables, kinds, inputs, tapes, received lists.
@@ -50,14 +41,26 @@ pub struct Sizes {
 }
 
 impl Sizes {
-    pub fn of(tables: &Tables, inputs: &[u32], tapes: &Tapes, lists: &Lists) -> Sizes
-        ensures { result ≡ sizes (lent_of tables.now inputs.now tapes.now lists.now) }
+    // Of lists that are only read: one by one, since `Tables` and `Lists` hold lists that can be written, and a caller may have none.
+    pub fn of(
+        one: &[u32],
+        two: &[u32],
+        three: &[u32],
+        kinds: &[u32],
+        inputs: &[u32],
+        tapes: &Tapes,
+        received1: &[u32],
+        received2: &[u32],
+        received3: &[u32],
+        controller: &[u32],
+    ) -> Sizes
+        ensures { result ≡ sizes (lent (tables one.now two.now three.now) kinds.now inputs.now (tapes_of tapes.now) (lists received1.now received2.now received3.now controller.now)) }
     {
         Sizes {
-            one: tables.one.len(),
-            two: tables.two.len(),
-            three: tables.three.len(),
-            kinds: tables.kinds.len(),
+            one: one.len(),
+            two: two.len(),
+            three: three.len(),
+            kinds: kinds.len(),
             inputs: inputs.len(),
             tapes: Drawn {
                 provider: tapes.provider.len(),
@@ -66,10 +69,10 @@ impl Sizes {
                 three: tapes.three.len(),
             },
             received: Received {
-                one: lists.one.len(),
-                two: lists.two.len(),
-                three: lists.three.len(),
-                controller: lists.controller.len(),
+                one: received1.len(),
+                two: received2.len(),
+                three: received3.len(),
+                controller: controller.len(),
             },
         }
     }
@@ -87,4 +90,15 @@ pub fn entry(list: &[u32], h: u32) -> u32
     ensures { result ≡ spec.entry list.now h }
 {
     read(list, (h as usize).saturating_sub(1))
+}
+
+// The three shares of a handle, from tables that are only read.
+pub fn shares_at(one: &[u32], two: &[u32], three: &[u32], h: u32) -> Shares
+    ensures { result ≡ shares_at (tables one.now two.now three.now) h }
+{
+    Shares {
+        one: entry(one, h),
+        two: entry(two, h),
+        three: entry(three, h),
+    }
 }

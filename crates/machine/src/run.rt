@@ -14,6 +14,24 @@ use super::{judge, step};
 use protocols::lent::{Lists, Tapes};
 use protocols::place::Place;
 
+// The lengths of all that is lent.
+fn sizes(tables: &Tables, inputs: &[u32], tapes: &Tapes, lists: &Lists) -> Sizes
+    ensures { result ≡ sizes (lent_of tables.now inputs.now tapes.now lists.now) }
+{
+    Sizes::of(
+        tables.one,
+        tables.two,
+        tables.three,
+        tables.kinds,
+        inputs,
+        tapes,
+        lists.one,
+        lists.two,
+        lists.three,
+        lists.controller,
+    )
+}
+
 // Number 4 refuses the first command, if there is one.
 fn refuse_first(words: usize, start: Place) -> Run
     ensures { (result.done ≡ 0) × (result.last ≡ answer (check 4 (nat_lt words 3) 0) start 0) }
@@ -90,7 +108,7 @@ pub fn run(
     ensures same_lists { Same lists.old lists.new }
     ensures done { ended result (lent_of tables.new inputs.now tapes.now lists.new) ≡ end_of start (run_to_refusal 5 (commands_of commands.now) start (lent_of tables.old inputs.now tapes.now lists.old)) }
 {
-    let sizes = Sizes::of(tables, inputs, tapes, lists);
+    let sizes = sizes(tables, inputs, tapes, lists);
     let unsound = !judge::is_sound(start, sizes, tables.kinds());
     if unsound {
         return refuse_first(commands.len(), start);
