@@ -3,6 +3,10 @@ use Rattle.std.specs.Prelude.{ℕ, ◌≡◌, ◌+◌, ◌≤◌, List, length}
 use Rattle.std.proofs.lemmas.List.Edits.{sets}
 use Rattle.session.specs.declared.text.Text.{Text}
 
+-- n more bytes have room in the buffer
+abbrev pub Room : Text → ℕ → Type 0
+Room t n = t.len + n ≤ length t.out.now
+
 -- the text with s behind it, in the same buffer
 pub record Adds (old : Text) (s : List ℕ) (new : Text) : Type 0 where
   pub same_reference : new.out.ghost_name ≡ old.out.ghost_name

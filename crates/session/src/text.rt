@@ -5,16 +5,16 @@ ghost use Rattle.protocols.specs.Shares.{shares, sum_of};
 ghost use Rattle.machine.specs.Run.{commands_of, sums_in_threes};
 ghost use Rattle.session.specs.Text.{spaced, end_line, stopped_line, last_line, refused_line, lines_with};
 ghost use Rattle.session.specs.Text as spec;
-ghost use Rattle.session.specs.Writing.{Adds};
+ghost use Rattle.session.specs.Writing.{Adds, Room};
 
 use super::answer::SessionAnswer;
 use protocols::open;
 use protocols::shares::Shares;
 
-// The code of the command that opens a value.
+// The code of the command that opens a value. (Accepted commands alone are told of: a `Code` of each would be made for this one test.)
 const OPEN: u32 = 11;
 
-// The text so far, at the front of a lent buffer.
+// The text so far, at the front of a lent buffer of fixed size. (No `fmt::Write`: this one's room is proved, so that no write can fail.)
 #[derive(Drop)]
 pub(crate) struct Text<'a> {
     out: &'a mut [u8],
@@ -36,7 +36,7 @@ impl<'a> Text<'a> {
     }
 
     fn put_bytes(&mut self, bytes: &[u8])
-        requires { self.old.len + length bytes.now ≤ length self.old.out.now }
+        requires { Room self.old (length bytes.now) }
         ensures { Adds self.old bytes.now self.new }
     {
         let end = self.len + bytes.len();
@@ -46,7 +46,7 @@ impl<'a> Text<'a> {
 
     // A space and a number.
     fn put_number(&mut self, n: u64)
-        requires { self.old.len + 21 ≤ length self.old.out.now }
+        requires { Room self.old 21 }
         ensures { Adds self.old (spaced (n ∷ [])) self.new }
     {
         let mut digits = itoa::Buffer::new();
@@ -56,7 +56,7 @@ impl<'a> Text<'a> {
 
     #[tactic(auto, using(crate::proofs::Laws::Text::spaced_front, crate::proofs::Laws::Puts::adds_nothing), unfolding(crate::specs::Text::spaced))]
     fn put_numbers(&mut self, numbers: &[u64])
-        requires { self.old.len + 21 * length numbers.now ≤ length self.old.out.now }
+        requires { Room self.old (21 * length numbers.now) }
         ensures added { Adds self.old (spaced numbers.now) self.new }
         ensures short { self.new.len ≤ self.old.len + 21 * length numbers.now }
     {
@@ -67,7 +67,7 @@ impl<'a> Text<'a> {
 
     // A word, its numbers and the end of the line.
     fn put_line(&mut self, name: &[u8], numbers: &[u64])
-        requires { self.old.len + (length name.now + 21 * length numbers.now + 1) ≤ length self.old.out.now }
+        requires { Room self.old (length name.now + 21 * length numbers.now + 1) }
         ensures added { Adds self.old (spec.line name.now numbers.now) self.new }
         ensures short { self.new.len ≤ self.old.len + (length name.now + 21 * length numbers.now + 1) }
     {
@@ -95,7 +95,7 @@ impl<'a> Text<'a> {
 
     // What ends the text: all commands were done, or one was refused.
     pub(crate) fn put_last(&mut self, answer: SessionAnswer)
-        requires { self.old.len + 109 ≤ length self.old.out.now }
+        requires { Room self.old 109 }
         ensures { Adds self.old (last_line answer) self.new }
     {
         if answer.number == 0 {
@@ -107,7 +107,7 @@ impl<'a> Text<'a> {
 
     #[tactic(auto, unfolding(crate::specs::Text::end_line))]
     fn put_end(&mut self, answer: SessionAnswer)
-        requires { self.old.len + 109 ≤ length self.old.out.now }
+        requires { Room self.old 109 }
         ensures { Adds self.old (end_line answer) self.new }
     {
         let received = answer.place.received;
@@ -122,7 +122,7 @@ impl<'a> Text<'a> {
     }
 
     fn put_stopped(&mut self, number: u32, command: usize)
-        requires { self.old.len + 53 ≤ length self.old.out.now }
+        requires { Room self.old 53 }
         ensures { Adds self.old (stopped_line number command) self.new }
     {
         self.put_bytes(b"refused");
@@ -132,7 +132,7 @@ impl<'a> Text<'a> {
 
     #[tactic(auto, unfolding(crate::specs::Text::refused_line))]
     pub(crate) fn put_refused(&mut self, number: u32)
-        requires { self.old.len + 29 ≤ length self.old.out.now }
+        requires { Room self.old 29 }
         ensures { Adds self.old (refused_line number) self.new }
     {
         self.put_line(b"refused", &[u64::from(number)]);
