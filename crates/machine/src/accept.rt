@@ -98,7 +98,8 @@ fn finish(
     })
 }
 
-// On lists that are lent one by one, as the parts of lent lists are.
+// On lists that are lent one by one, as the parts of lent lists are. (A struct of the parts, made where they are cut, is a loan that the
+// check does not follow yet.)
 #[inline(always)]
 fn play_on(
     code: Code,

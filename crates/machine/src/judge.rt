@@ -187,7 +187,7 @@ fn room(code: Code, p: Place, entries: usize, inputs: usize) -> Result<(), Refus
     }
 }
 
-// The lowest number from 6 to 11 that applies, if one does.
+// The lowest number from 6 to 11 that applies, if one does. (Entries and inputs are counts, and no lists: nothing here can see a share.)
 pub(crate) fn fields_and_room(
     code: Code,
     c: Command,

@@ -15,7 +15,8 @@ use protocols::place::Place;
 use protocols::shares::Shares;
 use protocols::{below, bit, bits, equal, local, multiply, open, reshare, store};
 
-// What the miners make alone, each from its own shares, unless the command has a joint protocol.
+// What the miners make alone, each from its own shares, unless the command has a joint protocol. (A match, as in `play`, and every command
+// named: one that is added is not forgotten.)
 #[inline(always)]
 pub(crate) fn make_alone(code: Code, b: u32, g: Given) -> Option<Shares>
     ensures { result ≡ spec.alone code b g }

@@ -18,7 +18,7 @@ pub enum Use {
 }
 
 // A command's line of the table: the use of fields a and b, the operands' kind, the new value's kind, new values, inputs, and the words
-// that are received and drawn.
+// that are received and drawn. (New values and inputs are counts, 0 or 1, by which the place moves on: no flags.)
 #[derive(Clone, Copy)]
 pub struct Row {
     pub a: Use,

@@ -20,7 +20,8 @@ pub const BYTES: usize = 30768;
 // Room for the longest text: 128 lines of at most 47 bytes and a last one of at most 109.
 pub const TEXT: usize = 8192;
 
-// The text of a session's outcome. The controller received three shares for each open.
+// The text of a session's outcome. The controller received three shares for each open. (Numbers 1 to 4 by their order: C's answer has a
+// number and no `Refusal`.)
 fn report(answer: SessionAnswer, words: &[u32], shares: &[u32], out: &mut [u8; TEXT]) -> usize
     requires { is_early answer.number ≡ false → Readable answer words.now shares.now }
     ensures { (out.new ≡ sets out.old 0 (text_from answer words.now shares.now)) × (result ≡ length (text_from answer words.now shares.now)) × (result ≤ length out.new) }

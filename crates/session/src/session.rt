@@ -14,7 +14,7 @@ use protocols::lent::Lists;
 pub const WORDS: usize = 7692;
 
 // Runs the file's commands from an empty place record, up to the first that is refused. The file's words are put at the front of
-// the lent ones; numbers 1 to 4 write nothing.
+// the lent ones; numbers 1 to 4 write nothing. (That the tables are of one length is tested here and by a run: a run has the lengths alone.)
 #[tactic(auto, using(crate::proofs::Laws::Session::words_lent))]
 pub fn session(
     file: &[u8],

@@ -121,6 +121,7 @@ impl<'a> Text<'a> {
         self.put_line(b"end", &numbers);
     }
 
+    // A number and no `Refusal`: the answer has it as C has it.
     fn put_stopped(&mut self, number: u32, command: usize)
         requires { Room self.old 53 }
         ensures { Adds self.old (stopped_line number command) self.new }
