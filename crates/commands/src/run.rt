@@ -16,7 +16,7 @@ pub struct Supplied<'a> {
     pub tapes: Tapes<'a>,
 }
 
-// The next command. Answers the place record that it leaves.
+// The next command. Answers the place record that it leaves. (Tables and lists are lent apart, as the machine takes them.)
 fn step(
     out: &mut impl Write,
     text: &mut Scanner,
