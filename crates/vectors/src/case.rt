@@ -53,18 +53,17 @@ fn operands(code: Code, generator: &mut Generator) -> Given {
     let u = words::shares(generator.words());
     let v = words::shares(generator.words());
     let input = generator.next_word();
+    let given = Given { input, u, v };
     match code {
         Code::Bit => Given {
             input: input % 32,
-            u,
-            v,
+            ..given
         },
         Code::Equal => Given {
-            input,
-            u,
             v: near(u, v, input),
+            ..given
         },
-        _ => Given { input, u, v },
+        _ => given,
     }
 }
 
