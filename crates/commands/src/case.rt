@@ -7,7 +7,7 @@ use protocols::lent::{Lists, Tapes};
 use std::io;
 use std::io::Write;
 
-// The most words of a list.
+// The most words of a list, and of inputs and tapes together.
 const ROOM: usize = 1024;
 
 // A list on a line, whole, the unfilled part too: so a word written where none is due shows.
@@ -31,10 +31,10 @@ fn with_tables(
     let mut three = [0u32; ROOM];
     let mut kinds = [0u32; ROOM];
     let mut tables = Tables {
-        one: text.numbers(&mut one),
-        two: text.numbers(&mut two),
-        three: text.numbers(&mut three),
-        kinds: text.numbers(&mut kinds),
+        one: text.list(&mut one).0,
+        two: text.list(&mut two).0,
+        three: text.list(&mut three).0,
+        kinds: text.list(&mut kinds).0,
     };
     run::run(out, text, supplied, &mut tables, lists)?;
     print_list(out, "share1", tables.one)?;
@@ -50,10 +50,10 @@ fn with_lists(out: &mut impl Write, text: &mut Scanner, supplied: Supplied) -> i
     let mut three = [0u32; ROOM];
     let mut controller = [0u32; ROOM];
     let mut lists = Lists {
-        one: text.numbers(&mut one),
-        two: text.numbers(&mut two),
-        three: text.numbers(&mut three),
-        controller: text.numbers(&mut controller),
+        one: text.list(&mut one).0,
+        two: text.list(&mut two).0,
+        three: text.list(&mut three).0,
+        controller: text.list(&mut controller).0,
     };
     with_tables(out, text, supplied, &mut lists)?;
     print_list(out, "received1", lists.one)?;
@@ -62,22 +62,23 @@ fn with_lists(out: &mut impl Write, text: &mut Scanner, supplied: Supplied) -> i
     print_list(out, "controller", lists.controller)
 }
 
-// A case begins with the line that names it, and the lists that its commands only read.
+// A case begins with the line that names it. The lists that its commands only read stand in one array.
 pub(crate) fn printed(out: &mut impl Write, text: &mut Scanner) -> io::Result<()> {
-    let name = text.line();
-    writeln!(out, "{name}")?;
-    let mut inputs = [0u32; ROOM];
-    let mut provider = [0u32; ROOM];
-    let mut one = [0u32; ROOM];
-    let mut two = [0u32; ROOM];
-    let mut three = [0u32; ROOM];
+    out.write_all(text.line())?;
+    writeln!(out)?;
+    let mut read = [0u32; ROOM];
+    let (inputs, room) = text.list(&mut read);
+    let (provider, room) = text.list(room);
+    let (one, room) = text.list(room);
+    let (two, room) = text.list(room);
+    let (three, _) = text.list(room);
     let supplied = Supplied {
-        inputs: text.numbers(&mut inputs),
+        inputs,
         tapes: Tapes {
-            provider: text.numbers(&mut provider),
-            one: text.numbers(&mut one),
-            two: text.numbers(&mut two),
-            three: text.numbers(&mut three),
+            provider,
+            one,
+            two,
+            three,
         },
     };
     with_lists(out, text, supplied)

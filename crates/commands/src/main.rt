@@ -10,7 +10,7 @@ use std::io;
 use std::io::Write;
 
 // The text begins with the number of cases.
-fn cases(out: &mut impl Write, text: &str) -> io::Result<()> {
+fn cases(out: &mut impl Write, text: &[u8]) -> io::Result<()> {
     let mut text = Scanner::new(text);
     for _ in 0..text.count() {
         case::printed(out, &mut text)?;
@@ -21,8 +21,5 @@ fn cases(out: &mut impl Write, text: &str) -> io::Result<()> {
 fn main(rt: HostRuntime) -> io::Result<()> {
     let mut file = [0u8; 400000];
     let n = reading::read_whole(&mut rt.stdin(), &mut file)?;
-    let Ok(text) = str::from_utf8(&file[..n]) else {
-        return Err(io::Error::from(io::ErrorKind::InvalidData));
-    };
-    cases(&mut io::writer(&rt), text)
+    cases(&mut io::writer(&rt), &file[..n])
 }

@@ -6,8 +6,8 @@ use machine::command;
 use machine::lent::Tables;
 use protocols::lent::{Lists, Tapes};
 use protocols::place::Place;
-use std::io;
 use std::io::Write;
+use std::{array, io};
 
 // What a case's commands only read.
 #[derive(Clone, Copy)]
@@ -16,7 +16,7 @@ pub struct Supplied<'a> {
     pub tapes: Tapes<'a>,
 }
 
-// The next command. Answers the place record that it leaves.
+// The next command. Answers the place record that it leaves. (Tables and lists are lent apart, as the machine takes them.)
 fn step(
     out: &mut impl Write,
     text: &mut Scanner,
@@ -25,9 +25,7 @@ fn step(
     tables: &mut Tables,
     lists: &mut Lists,
 ) -> io::Result<Place> {
-    let mut words = [0u32; 3];
-    text.numbers(&mut words);
-    let [code, a, b] = words;
+    let [code, a, b]: [u32; 3] = array::from_fn(|_| text.word());
     let Answer {
         number,
         place,
@@ -55,9 +53,7 @@ pub(crate) fn run(
     tables: &mut Tables,
     lists: &mut Lists,
 ) -> io::Result<()> {
-    let mut start = [0; 10];
-    text.numbers(&mut start);
-    let mut place = Place::from(start);
+    let mut place = Place::from(array::from_fn(|_| text.count()));
     for _ in 0..text.count() {
         place = step(out, text, place, supplied, tables, lists)?;
     }

@@ -1,45 +1,75 @@
-// Reads the text of the cases, line by line.
-use std::str::{FromStr, Lines};
+// Reads the text of the cases: numbers, and words that are there for the reader.
+ghost use Rattle.std.specs.Prelude.{◌≡◌, ◌++◌};
 
 // What is still to be read.
 #[derive(Drop)]
 pub struct Scanner<'a> {
-    lines: Lines<'a>,
+    rest: &'a [u8],
+}
+
+fn is_space(byte: u8) -> bool {
+    byte == b' ' || byte == b'\n'
+}
+
+// One more digit. (Places go up to 2^64 - 1; no number of the text is larger.)
+fn with_digit(value: u64, byte: &u8) -> u64 {
+    let digit = u64::from(byte % 16);
+    value
+        .checked_mul(10)
+        .map_or(value, |tens| tens.wrapping_add(digit))
 }
 
 impl<'a> Scanner<'a> {
-    pub(crate) fn new(text: &'a str) -> Scanner<'a> {
-        Scanner {
-            lines: text.lines(),
+    pub(crate) fn new(text: &'a [u8]) -> Scanner<'a> {
+        Scanner { rest: text }
+    }
+
+    // Takes what stands before the first byte that ends it, or all that is left.
+    fn until<F: FnMut(&u8) -> bool>(&mut self, ends: F) -> &'a [u8]
+        requires { F.IsAlwaysCallable ends }
+        ensures { self.old.rest.now ≡ result.now ++ self.new.rest.now }
+    {
+        let text = self.rest;
+        let end = text.iter().position(ends).unwrap_or(text.len());
+        let (read, rest) = text.split_at(end);
+        self.rest = rest;
+        read
+    }
+
+    // The next number. A digit within a word, as in tape1, begins none.
+    pub(crate) fn number(&mut self) -> u64 {
+        let mut within = false;
+        self.until(|byte| {
+            let begins = !within && byte.is_ascii_digit();
+            within = !is_space(*byte);
+            begins
+        });
+        self.until(|byte| !byte.is_ascii_digit())
+            .iter()
+            .fold(0, with_digit)
+    }
+
+    pub(crate) fn word(&mut self) -> u32 {
+        (self.number() % 4294967296) as u32
+    }
+
+    pub(crate) fn count(&mut self) -> usize {
+        self.number() as usize
+    }
+
+    // A list: its count, then its words, which are put into the front of the room, as many as it holds. Answers them and the room behind.
+    pub(crate) fn list<'b>(&mut self, room: &'b mut [u32]) -> (&'b mut [u32], &'b mut [u32]) {
+        let words = self.count().min(room.len());
+        let (list, behind) = room.split_at_mut(words);
+        for entry in list.iter_mut() {
+            *entry = self.word();
         }
+        (list, behind)
     }
 
     // The next line that is not empty. Past the text's end there is an empty one.
-    pub(crate) fn line(&mut self) -> &'a str {
-        self.lines.find(|line| !line.is_empty()).unwrap_or("")
-    }
-
-    // The numbers of the next line, put into the front of a list that has room for them. The line's words are there for the reader.
-    pub(crate) fn numbers<'b, T: FromStr + Drop>(&mut self, room: &'b mut [T]) -> &'b mut [T]
-    where
-        T::Err: Drop,
-    {
-        let mut filled = 0;
-        for word in self.line().split_ascii_whitespace() {
-            if filled < room.len()
-                && let Ok(number) = word.parse()
-            {
-                room[filled] = number;
-                filled += 1;
-            }
-        }
-        &mut room[..filled]
-    }
-
-    // The first number of the next line.
-    pub(crate) fn count(&mut self) -> usize {
-        let mut count = [0];
-        self.numbers(&mut count);
-        count[0]
+    pub(crate) fn line(&mut self) -> &'a [u8] {
+        self.until(|byte| *byte != b'\n');
+        self.until(|byte| *byte == b'\n')
     }
 }

@@ -1,11 +1,12 @@
 // Generated cases: operands, a place that has moved on already, and tapes.
 use crate::lists::Delivered;
 use crate::words::Generator;
-use crate::{lists, print};
+use crate::{lists, print, short, words};
 use machine::code::Code;
 use machine::given::Given;
 use machine::row;
 use protocols::lent::Tapes;
+use protocols::open;
 use protocols::place::{Drawn, Party, Place, Received};
 use protocols::shares::Shares;
 use std::io;
@@ -27,133 +28,122 @@ pub(crate) const WHOLE_LISTS: Received = Received {
     controller: 32,
 };
 
-// The operands, the place, and how many words are lent of each tape where tapes are cut.
+// A protocol with its operands, the place, and how much is lent of each tape and list.
 #[derive(Clone, Copy)]
 pub struct Case {
+    pub code: Code,
     pub operands: Given,
     pub place: Place,
     pub lent: Drawn,
+    pub room: Received,
 }
 
 // Two random values are never equal: so v becomes u, or a power of two away from it.
 fn near(u: Shares, v: Shares, word: u32) -> Shares {
     let apart = (word % 2) << (word / 2 % 32);
-    let value = u.one.wrapping_add(u.two).wrapping_add(u.three);
-    let rest = value.wrapping_sub(v.one).wrapping_sub(v.two);
+    let rest = open::total(u).wrapping_sub(v.one).wrapping_sub(v.two);
     Shares {
-        one: v.one,
-        two: v.two,
         three: rest.wrapping_add(apart),
+        ..v
     }
 }
 
-// A case begins with 21 words: the operands, the place record and the spare words of the four tapes.
-fn operands(code: Code, words: &[u32; 21]) -> Given {
-    let u = Shares {
-        one: words[0],
-        two: words[1],
-        three: words[2],
-    };
-    let v = Shares {
-        one: words[3],
-        two: words[4],
-        three: words[5],
-    };
-    let input = words[6];
+// The next two values and an input.
+fn operands(code: Code, generator: &mut Generator) -> Given {
+    let u = words::shares(generator.words());
+    let v = words::shares(generator.words());
+    let input = generator.next_word();
+    let given = Given { input, u, v };
     match code {
         Code::Bit => Given {
             input: input % 32,
-            u,
-            v,
+            ..given
         },
         Code::Equal => Given {
-            input,
-            u,
             v: near(u, v, input),
+            ..given
         },
-        _ => Given { input, u, v },
+        _ => given,
     }
 }
 
 // Counts drawn already, mostly not 0: the words before the place must not be used.
-fn place(words: &[u32; 21]) -> Place {
-    Place::from([
-        (words[7] % 100) as usize,
-        (words[8] % 100) as usize,
-        (words[9] % 4) as usize,
-        (words[10] % 4) as usize,
-        (words[11] % 4) as usize,
-        (words[12] % 4) as usize,
-        (words[13] % 1000) as usize,
-        (words[14] % 1000) as usize,
-        (words[15] % 1000) as usize,
-        (words[16] % 1000) as usize,
-    ])
+fn place(generator: &mut Generator) -> Place {
+    let [handles, inputs]: [usize; 2] = generator.words().map(|word| (word % 100) as usize);
+    let [provider, one, two, three]: [usize; 4] = generator.words().map(|word| (word % 4) as usize);
+    let drawn = Drawn {
+        provider,
+        one,
+        two,
+        three,
+    };
+    let [one, two, three, controller]: [usize; 4] = generator
+        .words()
+        .map(|word| (word % 1000) as usize);
+    Place {
+        handles,
+        inputs,
+        drawn,
+        received: Received {
+            one,
+            two,
+            three,
+            controller,
+        },
+    }
 }
 
-// From one word too few to six too many, where the protocol draws from the tape at all.
-fn lent_of(start: u32, need: usize, spare: u32) -> usize {
-    let most = need.saturating_add((start % 4 + spare % 8) as usize);
-    if need == 0 { most } else { most - 1 }
-}
-
-// What is lent of each tape where tapes are cut.
-fn cut(need: Drawn, words: &[u32; 21]) -> Drawn {
+// What is lent of each tape: from one word too few to six too many, where the protocol draws from the tape at all.
+fn cut(code: Code, drawn: Drawn, generator: &mut Generator) -> Drawn {
+    let need = row::of(code).drawn;
+    let lent = |party, spare: u32| {
+        let beside = drawn.of(party).saturating_add((spare % 8) as usize);
+        short::enough(beside, need.of(party), 0 < need.of(party))
+    };
+    let [provider, one, two, three]: [u32; 4] = generator.words();
     Drawn {
-        provider: lent_of(words[9], need.provider, words[17]),
-        one: lent_of(words[10], need.one, words[18]),
-        two: lent_of(words[11], need.two, words[19]),
-        three: lent_of(words[12], need.three, words[20]),
+        provider: lent(Party::Provider, provider),
+        one: lent(Party::One, one),
+        two: lent(Party::Two, two),
+        three: lent(Party::Three, three),
     }
 }
 
-// The next case of a protocol.
+// The next case of a protocol, with tapes that are cut and whole lists.
 pub(crate) fn generated(code: Code, generator: &mut Generator) -> Case {
-    let words = generator.words();
+    let operands = operands(code, generator);
+    let place = place(generator);
+    let lent = cut(code, place.drawn, generator);
     Case {
-        operands: operands(code, &words),
-        place: place(&words),
-        lent: cut(row::of(code).drawn, &words),
+        code,
+        operands,
+        place,
+        lent,
+        room: WHOLE_LISTS,
     }
 }
 
-// The first words of a tape, or all of it.
-fn front(tape: &[u32], count: usize) -> &[u32] {
-    tape.get(..count).unwrap_or(tape)
-}
-
-// Performs a protocol on tapes of the next words, 32 to each, cut to what is lent, and on lists with so much room.
-pub(crate) fn perform(
-    code: Code,
-    x: Given,
-    place: Place,
-    lent: Drawn,
-    room: Received,
-    generator: &mut Generator,
-) -> Delivered {
+// Performs a case on tapes of the next words, 32 to each.
+pub(crate) fn perform(case: &Case, generator: &mut Generator) -> Delivered {
     let provider = generator.words::<32>();
     let one = generator.words::<32>();
     let two = generator.words::<32>();
     let three = generator.words::<32>();
     let tapes = Tapes {
-        provider: front(&provider, lent.provider),
-        one: front(&one, lent.one),
-        two: front(&two, lent.two),
-        three: front(&three, lent.three),
+        provider: &provider,
+        one: &one,
+        two: &two,
+        three: &three,
     };
-    lists::perform(code, x, place, room, &tapes)
+    lists::perform(case, &tapes)
 }
 
 // The first tape that a protocol draws from. One that draws from none sends nothing.
 pub(crate) fn first_tape(code: Code) -> Option<Party> {
     let drawn = row::of(code).drawn;
-    if 0 < drawn.provider {
-        Some(Party::Provider)
-    } else if 0 < drawn.one {
-        Some(Party::One)
-    } else {
-        None
-    }
+    [Party::Provider, Party::One]
+        .into_iter()
+        .find(|party| 0 < drawn.of(*party))
 }
 
 // Prints the next case in full.
@@ -163,11 +153,13 @@ pub(crate) fn printed(
     code: Code,
     generator: &mut Generator,
 ) -> io::Result<()> {
-    let case = generated(code, generator);
-    let x = case.operands;
-    let delivered = perform(code, x, case.place, WHOLE_TAPES, WHOLE_LISTS, generator);
+    let case = Case {
+        lent: WHOLE_TAPES,
+        ..generated(code, generator)
+    };
+    let delivered = perform(&case, generator);
     write!(out, "case {number} ")?;
-    print::case(out, code, x, &delivered)?;
+    print::case(out, &case, &delivered)?;
     writeln!(out)?;
     if first_tape(code).is_some() {
         let place = delivered.done().place;

@@ -1,11 +1,11 @@
 // Received lists with exactly enough room, with more, and with one word less: number 13, the place and all lists stay.
-use crate::lists::{RECEIVERS, Receiver};
+use crate::case::Case;
+use crate::lists::Receiver;
 use crate::words::Generator;
 use crate::{case, print, short};
 use machine::code::Code;
-use machine::given::Given;
 use machine::row;
-use protocols::place::{Party, Received};
+use protocols::place::Received;
 use std::fmt::Display;
 use std::io;
 use std::io::Write;
@@ -24,18 +24,15 @@ fn room(code: Code, more: usize, short: Option<Receiver>) -> Received {
     }
 }
 
-// Exactly enough of each tape, but for the one that is a word short. Prints the lists whole.
+// Prints the lists whole.
 fn line(
     out: &mut impl Write,
     label: impl Display + Drop,
-    code: Code,
-    x: Given,
-    tape: Option<Party>,
-    room: Received,
+    case: Case,
     mut generator: Generator,
 ) -> io::Result<()> {
-    let lent = short::cut(code, tape);
-    let delivered = case::perform(code, x, short::place(), lent, room, &mut generator);
+    let delivered = case::perform(&case, &mut generator);
+    let Case { code, room, .. } = case;
     let name = print::name(code);
     let place = delivered.done().place;
     write!(out, "deliver {label} {name} room {room}")?;
@@ -54,30 +51,36 @@ pub(crate) fn printed(
     let Some(first) = case::first_tape(code) else {
         return Ok(());
     };
-    let x = case::generated(code, &mut generator).operands;
-    line(out, "exact", code, x, None, room(code, 0, None), generator)?;
-    line(out, "more", code, x, None, room(code, 2, None), generator)?;
-    for short in RECEIVERS {
+    let exact = Case {
+        place: short::place(),
+        lent: short::cut(code, None),
+        room: room(code, 0, None),
+        ..case::generated(code, &mut generator)
+    };
+    let more = Case {
+        room: room(code, 2, None),
+        ..exact
+    };
+    line(out, "exact", exact, generator)?;
+    line(out, "more", more, generator)?;
+    for short in [
+        Receiver::One,
+        Receiver::Two,
+        Receiver::Three,
+        Receiver::Controller,
+    ] {
         if 0 < short.due(row::of(code).received) {
-            let room = room(code, 0, Some(short));
-            line(
-                out,
-                format_args!("short {short}"),
-                code,
-                x,
-                None,
-                room,
-                generator,
-            )?;
+            let case = Case {
+                room: room(code, 0, Some(short)),
+                ..exact
+            };
+            line(out, format_args!("short {short}"), case, generator)?;
         }
     }
-    line(
-        out,
-        "short tape and miner 2",
-        code,
-        x,
-        Some(first),
-        room(code, 0, Some(Receiver::Two)),
-        generator,
-    )
+    let both = Case {
+        lent: short::cut(code, Some(first)),
+        room: room(code, 0, Some(Receiver::Two)),
+        ..exact
+    };
+    line(out, "short tape and miner 2", both, generator)
 }

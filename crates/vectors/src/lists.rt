@@ -1,8 +1,7 @@
 // The received lists of a case: 32 words each, 100 to 131 beforehand. No case sends the word that stands there, so each word
 // put into them shows.
+use crate::case::Case;
 use crate::words;
-use machine::code::Code;
-use machine::given::Given;
 use machine::play;
 use machine::refusal::Refusal;
 use protocols::lent::{Lists, Tapes};
@@ -19,14 +18,6 @@ pub enum Receiver {
     Three,
     Controller,
 }
-
-// In the order in which lists are printed.
-pub(crate) const RECEIVERS: [Receiver; 4] = [
-    Receiver::One,
-    Receiver::Two,
-    Receiver::Three,
-    Receiver::Controller,
-];
 
 impl Receiver {
     // How many words are for this list.
@@ -51,12 +42,12 @@ impl fmt::Display for Receiver {
     }
 }
 
-// What a protocol answers from a place, and the lists as it leaves them, as RECEIVERS has them.
+// What a protocol answers from a place, and each receiver's list as it leaves it, in the order in which they are printed.
 #[derive(Clone, Copy)]
 pub struct Delivered {
     place: Place,
     outcome: Result<Done, Shortage>,
-    pub lists: [[u32; 32]; 4],
+    pub lists: [(Receiver, [u32; 32]); 4],
 }
 
 impl Delivered {
@@ -90,20 +81,32 @@ pub(crate) fn received(list: &[u32; 32]) -> usize {
         .count()
 }
 
+// The first words of a tape, or all of it.
+fn front(tape: &[u32], count: usize) -> &[u32] {
+    tape.get(..count).unwrap_or(tape)
+}
+
 // A tail of a list, with so much room.
 fn tail(list: &mut [u32], room: usize) -> &mut [u32] {
     let start = list.len().saturating_sub(room);
     &mut list[start..]
 }
 
-// Performs a protocol on tails of the lists, with so much room. The operands' input is also the constant or the position.
-pub(crate) fn perform(
-    code: Code,
-    x: Given,
-    place: Place,
-    room: Received,
-    tapes: &Tapes,
-) -> Delivered {
+// Performs a case on what it lends: fronts of the tapes and tails of the lists. The operands' input is also the constant or the position.
+pub(crate) fn perform(case: &Case, tapes: &Tapes) -> Delivered {
+    let Case {
+        code,
+        operands,
+        place,
+        lent,
+        room,
+    } = *case;
+    let fronts = Tapes {
+        provider: front(tapes.provider, lent.provider),
+        one: front(tapes.one, lent.one),
+        two: front(tapes.two, lent.two),
+        three: front(tapes.three, lent.three),
+    };
     let mut one = before();
     let mut two = before();
     let mut three = before();
@@ -114,10 +117,15 @@ pub(crate) fn perform(
         three: tail(&mut three, room.three),
         controller: tail(&mut controller, room.controller),
     };
-    let outcome = play::play(code, x.input, x, place, tapes, &mut tails);
+    let outcome = play::play(code, operands.input, operands, place, &fronts, &mut tails);
     Delivered {
         place,
         outcome,
-        lists: [one, two, three, controller],
+        lists: [
+            (Receiver::One, one),
+            (Receiver::Two, two),
+            (Receiver::Three, three),
+            (Receiver::Controller, controller),
+        ],
     }
 }

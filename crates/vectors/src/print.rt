@@ -1,6 +1,7 @@
 // What is printed of a case, an outcome and a list.
+use crate::case::Case;
 use crate::lists;
-use crate::lists::{Delivered, RECEIVERS};
+use crate::lists::Delivered;
 use machine::code::Code;
 use machine::given::Given;
 use std::io;
@@ -24,9 +25,9 @@ pub(crate) fn name(code: Code) -> &'static str {
 }
 
 // The operands that the protocol uses.
-fn operands(out: &mut impl Write, code: Code, x: Given) -> io::Result<()> {
-    let Given { input, u, v } = x;
-    match code {
+fn operands(out: &mut impl Write, case: &Case) -> io::Result<()> {
+    let Given { input, u, v } = case.operands;
+    match case.code {
         Code::Store => write!(out, " w {input}"),
         Code::AddConstant | Code::TimesConstant | Code::Bit => write!(out, " u {u} w {input}"),
         Code::Reshare | Code::Bits | Code::Open => write!(out, " u {u}"),
@@ -42,21 +43,16 @@ pub(crate) fn outcome(out: &mut impl Write, delivered: &Delivered) -> io::Result
 }
 
 // The protocol, its operands, and the outcome's number and shares.
-pub(crate) fn case(
-    out: &mut impl Write,
-    code: Code,
-    x: Given,
-    delivered: &Delivered,
-) -> io::Result<()> {
-    let name = name(code);
+pub(crate) fn case(out: &mut impl Write, case: &Case, delivered: &Delivered) -> io::Result<()> {
+    let name = name(case.code);
     write!(out, "{name}")?;
-    operands(out, code, x)?;
+    operands(out, case)?;
     outcome(out, delivered)
 }
 
 // The words that each party receives, or its whole list.
 pub(crate) fn lists(out: &mut impl Write, delivered: &Delivered, whole: bool) -> io::Result<()> {
-    for (receiver, list) in RECEIVERS.iter().zip(&delivered.lists) {
+    for (receiver, list) in &delivered.lists {
         let (verb, words) = if whole {
             ("list", list.len())
         } else {

@@ -1,9 +1,8 @@
 // Tapes with exactly enough words, and with one word too few: number 12, the place stays and no word is sent.
-use crate::case::WHOLE_LISTS;
+use crate::case::Case;
 use crate::words::Generator;
 use crate::{case, lists, print};
 use machine::code::Code;
-use machine::given::Given;
 use machine::row;
 use protocols::place::{Drawn, Party, Place};
 use std::io;
@@ -34,23 +33,16 @@ pub(crate) fn cut(code: Code, short: Option<Party>) -> Drawn {
     }
 }
 
-fn line(
-    out: &mut impl Write,
-    tape: &str,
-    code: Code,
-    x: Given,
-    short: Option<Party>,
-    generator: &mut Generator,
-) -> io::Result<()> {
-    let delivered = case::perform(code, x, place(), cut(code, short), WHOLE_LISTS, generator);
-    let name = print::name(code);
+fn line(out: &mut impl Write, tape: &str, case: Case, generator: &mut Generator) -> io::Result<()> {
+    let delivered = case::perform(&case, generator);
+    let name = print::name(case.code);
     let number = delivered.number();
     let place = delivered.done().place;
     write!(
         out,
         "short {tape} {name} number {number} place {place} words"
     )?;
-    for list in &delivered.lists {
+    for (_, list) in &delivered.lists {
         let words = lists::received(list);
         write!(out, " {words}")?;
     }
@@ -66,7 +58,11 @@ pub(crate) fn printed(
     if case::first_tape(code).is_none() {
         return Ok(());
     }
-    let x = case::generated(code, generator).operands;
+    let exact = Case {
+        place: place(),
+        lent: cut(code, None),
+        ..case::generated(code, generator)
+    };
     let need = row::of(code).drawn;
     for (tape, party) in [
         ("provider", Party::Provider),
@@ -75,9 +71,13 @@ pub(crate) fn printed(
         ("miner 3", Party::Three),
     ] {
         if 0 < need.of(party) {
+            let case = Case {
+                lent: cut(code, Some(party)),
+                ..exact
+            };
             let mut same = *generator;
-            line(out, tape, code, x, Some(party), &mut same)?;
+            line(out, tape, case, &mut same)?;
         }
     }
-    line(out, "no tape", code, x, None, generator)
+    line(out, "no tape", exact, generator)
 }

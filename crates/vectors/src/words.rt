@@ -1,4 +1,5 @@
 // Lists of words for the cases: those of a congruential generator, or numbers in a row.
+use protocols::shares::Shares;
 use std::array;
 
 // A generator, where it is.
@@ -13,7 +14,7 @@ impl Generator {
     }
 
     // The low bits repeat too soon, so the high ones are folded into them.
-    fn next_word(&mut self) -> u32 {
+    pub(crate) fn next_word(&mut self) -> u32 {
         self.at = self.at.wrapping_mul(1664525).wrapping_add(1013904223);
         self.at ^ (self.at >> 16)
     }
@@ -24,12 +25,13 @@ impl Generator {
     }
 }
 
+// Three words as shares.
+pub(crate) fn shares(words: [u32; 3]) -> Shares {
+    let [one, two, three] = words;
+    Shares { one, two, three }
+}
+
 // Numbers in a row.
 pub(crate) fn in_a_row<const N: usize>(first: u32) -> [u32; N] {
-    let mut next = first;
-    array::from_fn(|_| {
-        let word = next;
-        next = next.wrapping_add(1);
-        word
-    })
+    array::from_fn(|i| first.wrapping_add((i % 4294967296) as u32))
 }

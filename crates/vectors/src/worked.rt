@@ -1,37 +1,29 @@
 // Document 01's cases, and Bit at the ends of a word and past it.
-use crate::case::WHOLE_LISTS;
+use crate::case::{Case, WHOLE_LISTS, WHOLE_TAPES};
 use crate::{lists, print, words};
 use machine::code::Code;
 use machine::given::Given;
 use protocols::lent::Tapes;
+use protocols::open;
 use protocols::place::Place;
 use protocols::shares::Shares;
 use std::io;
 use std::io::Write;
 
-fn shares(s: [u32; 3]) -> Shares {
-    Shares {
-        one: s[0],
-        two: s[1],
-        three: s[2],
+// A shared value, with an input, a constant or a position.
+fn with(u: [u32; 3], input: u32) -> Given {
+    Given {
+        input,
+        u: words::shares(u),
+        v: Shares::default(),
     }
 }
 
 // Two shared values.
 fn pair(u: [u32; 3], v: [u32; 3]) -> Given {
     Given {
-        input: 0,
-        u: shares(u),
-        v: shares(v),
-    }
-}
-
-// A shared value, with an input, a constant or a position.
-fn with(u: [u32; 3], input: u32) -> Given {
-    Given {
-        input,
-        u: shares(u),
-        v: shares([0, 0, 0]),
+        v: words::shares(v),
+        ..with(u, 0)
     }
 }
 
@@ -39,31 +31,41 @@ fn with(u: [u32; 3], input: u32) -> Given {
 fn value(code: Code, s: Shares) -> u32 {
     match code {
         Code::Bits => s.one ^ s.two ^ s.three,
-        _ => s.one.wrapping_add(s.two).wrapping_add(s.three),
+        _ => open::total(s),
+    }
+}
+
+// The miners' tapes, where the provider has none.
+fn of_miners<'a>(one: &'a [u32], two: &'a [u32], three: &'a [u32]) -> Tapes<'a> {
+    Tapes {
+        provider: &[],
+        one,
+        two,
+        three,
+    }
+}
+
+// The provider's tape, where the miners have none.
+fn of_provider(provider: &[u32]) -> Tapes<'_> {
+    Tapes {
+        provider,
+        ..of_miners(&[], &[], &[])
     }
 }
 
 // Performs a case from an empty place record, and prints it with the value that its shares give.
-fn line(
-    out: &mut impl Write,
-    label: &str,
-    code: Code,
-    x: Given,
-    provider: &[u32],
-    one: &[u32],
-    two: &[u32],
-    three: &[u32],
-) -> io::Result<()> {
-    let tapes = Tapes {
-        provider,
-        one,
-        two,
-        three,
+fn line(out: &mut impl Write, label: &str, code: Code, x: Given, tapes: Tapes) -> io::Result<()> {
+    let case = Case {
+        code,
+        operands: x,
+        place: Place::default(),
+        lent: WHOLE_TAPES,
+        room: WHOLE_LISTS,
     };
-    let delivered = lists::perform(code, x, Place::default(), WHOLE_LISTS, &tapes);
+    let delivered = lists::perform(&case, &tapes);
     let value = value(code, delivered.done().shares);
     write!(out, "{label} ")?;
-    print::case(out, code, x, &delivered)?;
+    print::case(out, &case, &delivered)?;
     writeln!(out, " value {value}")
 }
 
@@ -73,7 +75,7 @@ fn in_a_row(out: &mut impl Write, label: &str, code: Code, x: Given, first: u32)
     let two = words::in_a_row::<12>(20);
     let three = words::in_a_row::<12>(40);
     one[0] = first;
-    line(out, label, code, x, &[], &one, &two, &three)
+    line(out, label, code, x, of_miners(&one, &two, &three))
 }
 
 // M1 to M4.
@@ -82,19 +84,12 @@ fn session(out: &mut impl Write) -> io::Result<()> {
     let five = with([0, 0, 0], 5);
     let factors = pair([1, 2, 4], [3, 4, 4294967294]);
     let product = with([4294967149, 4294966074, 1404], 0);
-    line(out, "M1", Code::Store, seven, &[1, 2], &[], &[], &[])?;
-    line(out, "M2", Code::Store, five, &[3, 4], &[], &[], &[])?;
-    line(
-        out,
-        "M3",
-        Code::Multiply,
-        factors,
-        &[],
-        &[10, 20],
-        &[30, 40],
-        &[50, 60],
-    )?;
-    line(out, "M4", Code::Open, product, &[], &[70], &[80], &[90])
+    let masks = of_miners(&[10, 20], &[30, 40], &[50, 60]);
+    let fresh = of_miners(&[70], &[80], &[90]);
+    line(out, "M1", Code::Store, seven, of_provider(&[1, 2]))?;
+    line(out, "M2", Code::Store, five, of_provider(&[3, 4]))?;
+    line(out, "M3", Code::Multiply, factors, masks)?;
+    line(out, "M4", Code::Open, product, fresh)
 }
 
 // M5 and M6, and the ends of a word. Past it commands refuse, and the protocol reads 0.
@@ -102,8 +97,8 @@ fn bits(out: &mut impl Write) -> io::Result<()> {
     let no = with([1, 0, 1], 0);
     let yes = with([0, 1, 0], 0);
     let ones = [4294967295, 4294967295, 4294967295];
-    line(out, "M5", Code::Bit, no, &[], &[1, 5, 0], &[], &[])?;
-    line(out, "M6", Code::Bit, yes, &[], &[0, 5, 0], &[], &[])?;
+    line(out, "M5", Code::Bit, no, of_miners(&[1, 5, 0], &[], &[]))?;
+    line(out, "M6", Code::Bit, yes, of_miners(&[0, 5, 0], &[], &[]))?;
     in_a_row(out, "first", Code::Bit, with(ones, 0), 1)?;
     in_a_row(out, "last", Code::Bit, with(ones, 31), 1)?;
     in_a_row(out, "past", Code::Bit, with(ones, 32), 1)
