@@ -102,16 +102,8 @@ fn start(v2: u32, v3: u32, bar2: u32, bar3: u32) -> Dealt
 {
     let v = ring::add(v2, v3);
     Dealt {
-        p: Shares {
-            one: 0,
-            two: v ^ bar2,
-            three: bar3,
-        },
-        s: Shares {
-            one: 0,
-            two: v & bar2,
-            three: v & bar3,
-        },
+        p: Shares::from([0, v ^ bar2, bar3]),
+        s: Shares::from([0, v & bar2, v & bar3]),
         v2,
         v3,
     }

@@ -70,11 +70,11 @@ fn folded(k: u32, p: Shares, q: Shares) -> Folding
 fn compared(d: Shares, r2: u32, r3: u32) -> Shares
     ensures { result ≡ spec.start (modulus 5) d r2 r3 }
 {
-    Shares {
-        one: 0xffff_ffff,
-        two: ring::add(d.two, r2),
-        three: ring::sub(0, ring::add(d.three, r3)),
-    }
+    Shares::from([
+        0xffff_ffff,
+        ring::add(d.two, r2),
+        ring::sub(0, ring::add(d.three, r3)),
+    ])
 }
 
 // The comparison, with the masks of the first round sent on.

@@ -1,6 +1,6 @@
 // Three words, one for each miner.
 ghost use Rattle.std.specs.Prelude.{◌≡◌, Some};
-ghost use Rattle.protocols.specs.Shares.{at, each, prev};
+ghost use Rattle.protocols.specs.Shares.{at, each, prev, shares_of};
 ghost use Rattle.protocols.specs.Printed as printed;
 
 use std::fmt;
@@ -60,3 +60,14 @@ impl fmt::Display for Shares {
         write!(f, "{one} {two} {three}")
     }
 }
+// Miner 1's word, miner 2's, miner 3's.
+impl From<[u32; 3]> for Shares {
+    ghost from_gives = { λ words s. s ≡ shares_of words };
+
+    #[inline(always)]
+    fn from(words: [u32; 3]) -> Shares {
+        let [one, two, three] = words;
+        Shares { one, two, three }
+    }
+}
+
