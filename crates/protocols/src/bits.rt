@@ -85,11 +85,7 @@ fn carried(k: u32, p: Shares, s: Shares, q: Shares, t: Shares, base: Shares) -> 
 {
     Held {
         p: p.zip(p.previous(), |own, previous| round_p(k, own, previous)),
-        s: Shares {
-            one: round_s(k, p.one, p.three, s.one, s.three),
-            two: round_s(k, p.two, p.one, s.two, s.one),
-            three: round_s(k, p.three, p.two, s.three, s.two),
-        },
+        s: p.zip_previous(s, |p, s, x, y| round_s(k, p, x, s, y)),
         q,
         t,
         base,

@@ -39,6 +39,23 @@ impl Shares {
         }
     }
 
+    // Of each miner's two words and the previous miner's two.
+    #[inline(always)]
+    pub(crate) fn zip_previous<F: Fn(u32, u32, u32, u32) -> u32>(
+        self,
+        other: Shares,
+        f: F,
+    ) -> Shares
+        requires { F.IsAlwaysCallable f }
+        ensures { F.post f self.one other.one self.three other.three result.one × F.post f self.two other.two self.one other.one result.two × F.post f self.three other.three self.two other.two result.three }
+    {
+        Shares {
+            one: f(self.one, other.one, self.three, other.three),
+            two: f(self.two, other.two, self.one, other.one),
+            three: f(self.three, other.three, self.two, other.two),
+        }
+    }
+
     // The previous miner's word, at each miner.
     #[inline(always)]
     pub(crate) fn previous(self) -> Shares
