@@ -47,7 +47,7 @@ fn converted(s: u32, a: u32, b: u32) -> Shares
     }
 }
 
-// On miner 1's tape alone, for miners 2 and 3 alone.
+// On miner 1's tape alone, for miners 2 and 3 alone. (It is lent those one by one, since Equal and Below lend it the tails of two lists.)
 #[tactic(auto, using(crate::proofs::Laws::Lent::bit_performs), unfolding(crate::specs::Bit::bit))]
 pub(crate) fn convert(
     u: Shares,

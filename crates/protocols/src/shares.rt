@@ -69,14 +69,6 @@ impl Shares {
     }
 }
 
-impl fmt::Display for Shares {
-    ghost output = { λ s. Some (printed.shares s) };
-
-    fn fmt<W: fmt::Write>(&self, f: &mut fmt::Formatter<W>) -> fmt::Result {
-        let Shares { one, two, three } = *self;
-        write!(f, "{one} {two} {three}")
-    }
-}
 // Miner 1's word, miner 2's, miner 3's.
 impl From<[u32; 3]> for Shares {
     ghost from_gives = { λ words s. s ≡ shares_of words };
@@ -88,3 +80,11 @@ impl From<[u32; 3]> for Shares {
     }
 }
 
+impl fmt::Display for Shares {
+    ghost output = { λ s. Some (printed.shares s) };
+
+    fn fmt<W: fmt::Write>(&self, f: &mut fmt::Formatter<W>) -> fmt::Result {
+        let Shares { one, two, three } = *self;
+        write!(f, "{one} {two} {three}")
+    }
+}
