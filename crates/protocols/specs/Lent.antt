@@ -1,5 +1,5 @@
 -- What is lent to a protocol, as the code holds it. (01, 'Handles, tapes and places')
-use Rattle.std.specs.Prelude.{ℕ, ◌≡◌, Option, Some, None, List, [], map}
+use Rattle.std.specs.Prelude.{ℕ, ◌≡◌, ◌≤◌, Option, Some, None, List, [], length, map}
 use Rattle.std.specs.Borrow.{Bor}
 use Rattle.protocols.specs.declared.lent.Lists as code_lists
 use Rattle.protocols.specs.declared.lent.Tapes as code_tapes
@@ -22,6 +22,10 @@ Same a b =
     × (b.two.ghost_name ≡ a.two.ghost_name)
     × (b.three.ghost_name ≡ a.three.ghost_name)
     × (b.controller.ghost_name ≡ a.controller.ghost_name)
+
+-- the miners' lists have room for so many words
+abbrev pub Room : ℕ → ℕ → ℕ → Lists → Type 0
+Room a b c l = (a ≤ length l.one) × (b ≤ length l.two) × (c ≤ length l.three)
 
 -- the words that a draw lends
 abbrev pub drawn : Option (Bor (List ℕ) × Place) → Option (List ℕ × Place)

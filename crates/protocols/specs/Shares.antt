@@ -1,5 +1,5 @@
 -- Shares of a value for the three miners. (01, 'What the engine covers' and 'Handles, tapes and places')
-use Rattle.std.specs.Prelude.{ℕ, ◌<◌, bit_xor}
+use Rattle.std.specs.Prelude.{ℕ, ◌<◌, List, slice_index, bit_xor}
 use Rattle.protocols.specs.declared.shares.Shares.{Shares}
 use Rattle.protocols.specs.Word.{add}
 
@@ -24,6 +24,10 @@ each f = record { one = f one; two = f two; three = f three }
 
 abbrev pub shares : ℕ → ℕ → ℕ → Shares
 shares a b c = record { one = a; two = b; three = c }
+
+-- of three words
+abbrev pub shares_of : List ℕ → Shares
+shares_of l = shares (slice_index l 0) (slice_index l 1) (slice_index l 2)
 
 -- 01, kind 1: 'three shares add up to it'
 unfoldable pub sum_of : ℕ → Shares → ℕ

@@ -41,21 +41,13 @@ fn converted(s: u32, a: u32, b: u32) -> Shares
     ensures { result ≡ shares 0 (choose s a (sub (modulus 5) 1 a)) (choose s b (sub (modulus 5) 0 b)) }
 {
     if s == 0 {
-        Shares {
-            one: 0,
-            two: a,
-            three: b,
-        }
+        Shares::from([0, a, b])
     } else {
-        Shares {
-            one: 0,
-            two: ring::sub(1, a),
-            three: ring::sub(0, b),
-        }
+        Shares::from([0, ring::sub(1, a), ring::sub(0, b)])
     }
 }
 
-// On miner 1's tape alone, for miners 2 and 3 alone.
+// On miner 1's tape alone, for miners 2 and 3 alone. (It is lent those one by one, since Equal and Below lend it the tails of two lists.)
 #[tactic(auto, using(crate::proofs::Laws::Lent::bit_performs), unfolding(crate::specs::Bit::bit))]
 pub(crate) fn convert(
     u: Shares,

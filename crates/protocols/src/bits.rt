@@ -1,11 +1,11 @@
 // Bits. (A round is a number, and each function of one asks that it is below 5: a type for it would ask the same of its maker.)
-ghost use Rattle.std.specs.Prelude.{◌≡◌, ◌+◌, ◌*◌, ◌<◌, ◌≤◌, true, [], ◌∷◌, length};
+ghost use Rattle.std.specs.Prelude.{◌≡◌, ◌+◌, ◌*◌, ◌<◌, true, []};
 ghost use Rattle.protocols.specs.Word.{modulus, width};
 ghost use Rattle.protocols.specs.Place.{tapes, lists, enough, to_next, to_two_three, ◌followed_by◌};
 ghost use Rattle.protocols.specs.Protocol.{perform};
 ghost use Rattle.protocols.specs.Outcome.{outcome, delivered, delivery, fronts, puts};
 ghost use Rattle.protocols.specs.Counts.{received};
-ghost use Rattle.protocols.specs.Lent.{tapes_of, lists_of, Same};
+ghost use Rattle.protocols.specs.Lent.{tapes_of, lists_of, Same, Room};
 ghost use Rattle.protocols.specs.Masked.{masked};
 ghost use Rattle.protocols.specs.WordForm as word;
 ghost use Rattle.protocols.specs.Bits as spec;
@@ -85,11 +85,7 @@ fn carried(k: u32, p: Shares, s: Shares, q: Shares, t: Shares, base: Shares) -> 
 {
     Held {
         p: p.zip(p.previous(), |own, previous| round_p(k, own, previous)),
-        s: Shares {
-            one: round_s(k, p.one, p.three, s.one, s.three),
-            two: round_s(k, p.two, p.one, s.two, s.one),
-            three: round_s(k, p.three, p.two, s.three, s.two),
-        },
+        s: p.zip_previous(s, |p, s, x, y| round_s(k, p, x, s, y)),
         q,
         t,
         base,
@@ -102,16 +98,8 @@ fn start(v2: u32, v3: u32, bar2: u32, bar3: u32) -> Dealt
 {
     let v = ring::add(v2, v3);
     Dealt {
-        p: Shares {
-            one: 0,
-            two: v ^ bar2,
-            three: bar3,
-        },
-        s: Shares {
-            one: 0,
-            two: v & bar2,
-            three: v & bar3,
-        },
+        p: Shares::from([0, v ^ bar2, bar3]),
+        s: Shares::from([0, v & bar2, v & bar3]),
         v2,
         v3,
     }
@@ -143,7 +131,7 @@ fn joined(h: Held) -> Shares
 // The dealing, with the masks of the first round sent on. (bar2, bar3 are document 01's R2, R3.)
 #[tactic(auto, unfolding(crate::specs::Bits::deal))]
 fn deal(u: Shares, words: &[u32; 3], q: Shares, t: Shares, lists: &mut Lists) -> Held
-    requires { (2 ≤ length lists.old.one.now) × (5 ≤ length lists.old.two.now) × (5 ≤ length lists.old.three.now) }
+    requires { Room 2 5 5 (lists_of lists.old) }
     ensures same { Same lists.old lists.new }
     ensures dealt { let w = tapes [] words.now [] [] in let d = (spec.deal 5).result u w in (result ≡ spec.begun d q t) × (lists_of lists.new ≡ fronts (lists_of lists.old) ((spec.deal 5).received u w followed_by to_next q followed_by to_next t followed_by to_two_three d.v3 d.v2)) }
 {
@@ -159,7 +147,7 @@ fn deal(u: Shares, words: &[u32; 3], q: Shares, t: Shares, lists: &mut Lists) ->
 
 // Round k: the masked shares and the masks of the next round sent on, and what the miners then hold.
 fn round(k: u32, held: Held, q: Shares, t: Shares, lists: &mut Lists) -> Held
-    requires { (k < 5) × (22 ≤ length lists.old.one.now) × (25 ≤ length lists.old.two.now) × (25 ≤ length lists.old.three.now) }
+    requires { (k < 5) × Room 22 25 25 (lists_of lists.old) }
     ensures same { Same lists.old lists.new }
     ensures carried { let p = masked held.p held.q in let s = masked held.s held.t in let w = to_next p followed_by to_next s followed_by to_next q followed_by to_next t in (result ≡ spec.carried (width 5) k p s q t held.base) × (lists_of lists.new ≡ puts (received (2 + 4 * k) (5 + 4 * k) (5 + 4 * k) 0) (lists_of lists.old) w) }
 {
@@ -177,9 +165,9 @@ pub(crate) fn rounds(
     tapes: &Tapes,
     lists: &mut Lists,
 ) -> Result<Done, Shortage>
-    requires { (enough (spec.bits 5).draws place (tapes_of tapes.now) ≡ true) × (22 ≤ length lists.old.one.now) × (25 ≤ length lists.old.two.now) × (25 ≤ length lists.old.three.now) }
+    requires { (enough (spec.bits 5).draws place (tapes_of tapes.now) ≡ true) × Room 22 25 25 (lists_of lists.old) }
     ensures same { Same lists.old lists.new }
-    ensures room { (22 ≤ length lists.new.one.now) × (25 ≤ length lists.new.two.now) × (25 ≤ length lists.new.three.now) }
+    ensures room { Room 22 25 25 (lists_of lists.new) }
     ensures done { delivered (outcome place result) (lists_of lists.new) ≡ delivery place (perform (spec.bits 5) u place (tapes_of tapes.now)) (lists_of lists.old) }
 {
     let Some((words, dealt_at)) = place.draw::<3>(Party::One, tapes.one) else {

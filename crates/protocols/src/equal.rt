@@ -1,12 +1,12 @@
 // Equal. (A round is a number below 5, as in Bits.)
-ghost use Rattle.std.specs.Prelude.{◌≡◌, ◌+◌, ◌*◌, ◌<◌, ◌≤◌, true, [], ◌∷◌, length};
+ghost use Rattle.std.specs.Prelude.{◌≡◌, ◌+◌, ◌*◌, ◌<◌, true, []};
 ghost use Rattle.protocols.specs.Word.{modulus, width};
 ghost use Rattle.protocols.specs.Shares.{operands};
 ghost use Rattle.protocols.specs.Place.{tapes, lists, enough, to_next, ◌followed_by◌};
 ghost use Rattle.protocols.specs.Protocol.{perform};
 ghost use Rattle.protocols.specs.Outcome.{outcome, delivered, delivery, fronts, puts};
 ghost use Rattle.protocols.specs.Counts.{received};
-ghost use Rattle.protocols.specs.Lent.{tapes_of, lists_of, Same};
+ghost use Rattle.protocols.specs.Lent.{tapes_of, lists_of, Same, Room};
 ghost use Rattle.protocols.specs.Masked.{masked};
 ghost use Rattle.protocols.specs.WordForm as word;
 ghost use Rattle.protocols.specs.Equal as spec;
@@ -70,17 +70,17 @@ fn folded(k: u32, p: Shares, q: Shares) -> Folding
 fn compared(d: Shares, r2: u32, r3: u32) -> Shares
     ensures { result ≡ spec.start (modulus 5) d r2 r3 }
 {
-    Shares {
-        one: 0xffff_ffff,
-        two: ring::add(d.two, r2),
-        three: ring::sub(0, ring::add(d.three, r3)),
-    }
+    Shares::from([
+        0xffff_ffff,
+        ring::add(d.two, r2),
+        ring::sub(0, ring::add(d.three, r3)),
+    ])
 }
 
 // The comparison, with the masks of the first round sent on.
 #[tactic(auto, unfolding(crate::specs::Equal::compare))]
 fn compare(u: Shares, v: Shares, words: &[u32; 1], q: Shares, lists: &mut Lists) -> Folding
-    requires { (1 ≤ length lists.old.one.now) × (2 ≤ length lists.old.two.now) × (2 ≤ length lists.old.three.now) }
+    requires { Room 1 2 2 (lists_of lists.old) }
     ensures same { Same lists.old lists.new }
     ensures compared { let w = tapes [] words.now [] [] in (result.p ≡ (spec.compare 5).result (operands u v) w) × (result.q ≡ q) × (lists_of lists.new ≡ fronts (lists_of lists.old) ((spec.compare 5).received (operands u v) w followed_by to_next q)) }
 {
@@ -98,7 +98,7 @@ fn compare(u: Shares, v: Shares, words: &[u32; 1], q: Shares, lists: &mut Lists)
 
 // Round k: the masked shares and the masks of the next round sent on, and what the miners then hold.
 fn round(k: u32, held: Folding, q: Shares, lists: &mut Lists) -> Folding
-    requires { (k < 5) × (11 ≤ length lists.old.one.now) × (15 ≤ length lists.old.two.now) × (15 ≤ length lists.old.three.now) }
+    requires { (k < 5) × Room 11 15 15 (lists_of lists.old) }
     ensures same { Same lists.old lists.new }
     ensures folded { let p = masked held.p held.q in let w = to_next p followed_by to_next q in (result ≡ spec.folded (width 5) k p q) × (lists_of lists.new ≡ puts (received (1 + 2 * k) (2 + 2 * k) (2 + 2 * k) 0) (lists_of lists.old) w) }
 {
@@ -116,7 +116,7 @@ fn folds(
     tapes: &Tapes,
     lists: &mut Lists,
 ) -> Result<Done, Shortage>
-    requires { (enough (spec.equal 5).draws place (tapes_of tapes.now) ≡ true) × (11 ≤ length lists.old.one.now) × (15 ≤ length lists.old.two.now) × (15 ≤ length lists.old.three.now) }
+    requires { (enough (spec.equal 5).draws place (tapes_of tapes.now) ≡ true) × Room 11 15 15 (lists_of lists.old) }
     ensures same { Same lists.old lists.new }
     ensures done { delivered (outcome place result) (lists_of lists.new) ≡ delivery place (perform (spec.equal 5) (operands u v) place (tapes_of tapes.now)) (lists_of lists.old) }
 {

@@ -3,7 +3,7 @@ ghost use Rattle.std.specs.Prelude.{◌≡◌, ◌+◌, ◌≤◌, length};
 ghost use Rattle.std.proofs.lemmas.List.Edits.{sets};
 ghost use Rattle.protocols.specs.Counts.{received};
 ghost use Rattle.protocols.specs.Outcome.{puts};
-ghost use Rattle.protocols.specs.Lent.{lists_of, Same, to_next_in_order};
+ghost use Rattle.protocols.specs.Lent.{lists_of, Same, Room, to_next_in_order};
 
 use super::lent::Lists;
 use super::shares::Shares;
@@ -22,7 +22,7 @@ impl Lists<'_> {
     // Words of each miner to the next, in order: into list 1 from `first` on, into lists 2 and 3 from `at` on.
     #[inline(always)]
     pub(crate) fn pass(&mut self, first: usize, at: usize, words: &[Shares])
-        requires { (first + length words.now ≤ length self.old.one.now) × (at + length words.now ≤ length self.old.two.now) × (at + length words.now ≤ length self.old.three.now) }
+        requires { let n = length words.now in Room (first + n) (at + n) (at + n) (lists_of self.old) }
         ensures same { Same self.old self.new }
         ensures passed { lists_of self.new ≡ puts (received first at at 0) (lists_of self.old) (to_next_in_order words.now) }
     {

@@ -23,11 +23,7 @@ fn product_share(u: u32, v: u32, x: u32, y: u32) -> u32
 fn product(u: Shares, v: Shares) -> Shares
     ensures { result ≡ spec.product (modulus 5) u v }
 {
-    Shares {
-        one: product_share(u.one, v.one, u.three, v.three),
-        two: product_share(u.two, v.two, u.one, v.one),
-        three: product_share(u.three, v.three, u.two, v.two),
-    }
+    u.zip_previous(v, product_share)
 }
 
 // Shares of u times v.

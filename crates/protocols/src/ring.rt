@@ -6,17 +6,17 @@ ghost use Rattle.protocols.specs.Word as word;
 pub fn add(a: u32, b: u32) -> u32
     ensures { result ≡ word.add (word.modulus 5) a b }
 {
-    std::num::wrapping_add_u32(a, b)
+    a.wrapping_add(b)
 }
 
-#[tactic(auto, using(crate::proofs::Laws::Ring::sub_unique))]
+#[tactic(auto, unfolding(crate::specs::Word::sub))]
 pub fn sub(a: u32, b: u32) -> u32
     ensures { result ≡ word.sub (word.modulus 5) a b }
 {
-    std::num::wrapping_sub_u32(a, b)
+    a.wrapping_sub(b)
 }
 
-// The product of two words has 64 bits; its low half is kept.
+// The product of two words has 64 bits; its low half is kept. (Document 01 asks for the product through u64: so no wrapping_mul.)
 #[tactic(auto, unfolding(crate::specs::Word::mul))]
 pub fn mul(a: u32, b: u32) -> u32
     ensures { result ≡ word.mul (word.modulus 5) a b }

@@ -1,6 +1,6 @@
 // Three words, one for each miner.
 ghost use Rattle.std.specs.Prelude.{◌≡◌, Some};
-ghost use Rattle.protocols.specs.Shares.{at, each, prev};
+ghost use Rattle.protocols.specs.Shares.{at, each, prev, shares_of};
 ghost use Rattle.protocols.specs.Printed as printed;
 
 use std::fmt;
@@ -39,6 +39,23 @@ impl Shares {
         }
     }
 
+    // Of each miner's two words and the previous miner's two.
+    #[inline(always)]
+    pub(crate) fn zip_previous<F: Fn(u32, u32, u32, u32) -> u32>(
+        self,
+        other: Shares,
+        f: F,
+    ) -> Shares
+        requires { F.IsAlwaysCallable f }
+        ensures { F.post f self.one other.one self.three other.three result.one × F.post f self.two other.two self.one other.one result.two × F.post f self.three other.three self.two other.two result.three }
+    {
+        Shares {
+            one: f(self.one, other.one, self.three, other.three),
+            two: f(self.two, other.two, self.one, other.one),
+            three: f(self.three, other.three, self.two, other.two),
+        }
+    }
+
     // The previous miner's word, at each miner.
     #[inline(always)]
     pub(crate) fn previous(self) -> Shares
@@ -49,6 +66,17 @@ impl Shares {
             two: self.one,
             three: self.two,
         }
+    }
+}
+
+// Miner 1's word, miner 2's, miner 3's.
+impl From<[u32; 3]> for Shares {
+    ghost from_gives = { λ words s. s ≡ shares_of words };
+
+    #[inline(always)]
+    fn from(words: [u32; 3]) -> Shares {
+        let [one, two, three] = words;
+        Shares { one, two, three }
     }
 }
 

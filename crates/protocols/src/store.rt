@@ -24,11 +24,7 @@ pub fn store(v: u32, place: Place, tapes: &Tapes, lists: &mut Lists) -> Result<D
     if !lists.have_room(1, 1, 1, 0) {
         return Err(Shortage::ListFull);
     }
-    let dealt = Shares {
-        one: s1,
-        two: s2,
-        three: ring::sub(ring::sub(v, s1), s2),
-    };
+    let dealt = Shares::from([s1, s2, ring::sub(ring::sub(v, s1), s2)]);
     lists.one[0] = dealt.one;
     lists.two[0] = dealt.two;
     lists.three[0] = dealt.three;

@@ -16,6 +16,7 @@ use Rattle.protocols.specs.declared.outcome.Shortage.{Shortage}
 use Rattle.protocols.specs.declared.outcome.Shortage.TheVariants.{TapeSpent, ListFull}
 use Rattle.protocols.specs.Outcome.{Outcome, outcome, Delivered, finished, refused, delivered, delivery, room, fronts, puts}
 use Rattle.protocols.specs.Counts.{received, due}
+use Rattle.protocols.specs.Lent.{Room}
 use Rattle.protocols.specs.Claims.{Delivers}
 use Rattle.protocols.proofs.Laws.Puts.{sets_behind}
 
@@ -45,7 +46,7 @@ has_room a b c x y z h =
     (leb-true a x e.0, leb-true b y f.0, leb-true c z f.1)
 
 -- counts for the three miners
-pub due_fits : (a b c : ℕ) (l : Lists) → (a ≤ length l.one) × (b ≤ length l.two) × (c ≤ length l.three) → (r : Receiver) → due r (received a b c 0) ≤ length (list r l)
+pub due_fits : (a b c : ℕ) (l : Lists) → Room a b c l → (r : Receiver) → due r (received a b c 0) ≤ length (list r l)
 due_fits a b c l h (miner one) = h.0
 due_fits a b c l h (miner two) = h.1
 due_fits a b c l h (miner three) = h.2

@@ -26,6 +26,7 @@ use Rattle.protocols.specs.Word.{width, modulus}
 use Rattle.protocols.specs.Shares.{one, two, three, Operands}
 use Rattle.protocols.specs.Place.{Tapes, tapes, Lists, lists, Receiver, miner, controller, list, advance, counts, plus, draw, enough, block, ◌followed_by◌, to_next, to_two_three}
 use Rattle.protocols.specs.Draws.{draw_each, draw_pairs}
+use Rattle.protocols.specs.Lent.{Room}
 use Rattle.protocols.specs.Protocol.{Protocol, ◌then◌, locally, Answer, done, spent, perform}
 use Rattle.protocols.specs.Store.{store}
 use Rattle.protocols.specs.Reshare.{reshare}
@@ -151,12 +152,12 @@ enough_first n k p t e = (both (enough n p t) _ (sym (enough-plus n k p t) ∙ e
 
 -- ---- the room of lent lists
 
-pub rooms : (a b c : ℕ) (l : Lists) → holds l (received a b c 0) ≡ true → (a ≤ length l.one) × (b ≤ length l.two) × (c ≤ length l.three)
+pub rooms : (a b c : ℕ) (l : Lists) → holds l (received a b c 0) ≡ true → Room a b c l
 rooms a b c l h = has_room a b c (length l.one) (length l.two) (length l.three) ((both (leb 0 (length l.controller)) _ h).1)
 
 -- where a protocol has put its words
 pub room_kept : {S T : Type 0} {f : Protocol S T} {s : S} {p : Place} {t : Tapes} {l₀ l : Lists} {x : T} {k : Received} {q : Place} {a b c : ℕ} → Performed f s p t l₀ x l k q
-    → (a ≤ length l₀.one) × (b ≤ length l₀.two) × (c ≤ length l₀.three) → (a ≤ length l.one) × (b ≤ length l.two) × (c ≤ length l.three)
+    → Room a b c l₀ → Room a b c l
 room_kept {l₀ = l₀} d h = rw (d.are, length-sets l₀.one 0 d.words.one, length-sets l₀.two 0 d.words.two, length-sets l₀.three 0 d.words.three) h
 
 -- ---- Bits

@@ -29,7 +29,7 @@ pub rounds-requires : goal.rounds-requires
 rounds-requires c =
     let e = enough_first (counts 0 15 12 12) (counts 0 3 0 0) _ _ (cc) in
     let h = rooms 22 28 28 (lists_of c.args.lists.now) (cc) in
-    (rw table_at_32.bits_row.drawn e, h.0, omega (arith, h.1), omega (arith, h.2))
+    (rw table_at_32.bits_row.drawn e, (h.0, omega (arith, h.1), omega (arith, h.2)))
 
 pub returns-in_err-word-clause-done : goal.returns-in_err-word-clause-done
 returns-in_err-word-clause-done c =

@@ -24,4 +24,4 @@ returns-then-not-have_room-clause-done c =
 pub rounds-requires : goal.rounds-requires
 rounds-requires c =
     let h = rooms 22 25 25 (lists_of c.args.lists.now) (cc) in
-    (rw table_at_32.bits_row.drawn (cc), h.0, h.1, h.2)
+    (rw table_at_32.bits_row.drawn (cc), h)

@@ -28,7 +28,7 @@ loop-k-init c =
     let d =
     rounds-begun 5 a.u a.place (tapes_of a.tapes.now) (sym c.draw.ensures ∙ ap drawn c.in-Some.is) _ _
     (cc) (lists_of a.lists.now) _ c.deal-held.result c.deal-held.ensures.dealt in
-    record { same = c.deal-held.ensures.same; room = room_kept d (c.requires.1, c.requires.2, c.requires.3); done = d }
+    record { same = c.deal-held.ensures.same; room = room_kept d c.requires.1; done = d }
 
 pub returns-in_default-draw_pairs-2-clause-done : goal.returns-in_default-draw_pairs-2-clause-done
 returns-in_default-draw_pairs-2-clause-done c =
@@ -44,7 +44,7 @@ loop-k-preserved c =
     let d =
     rounds_more 5 c.args.u _ _ c.loop-k.k c.loop-k.invariant.done _ _
     (cc) _ c.round-held.result c.round-held.ensures.carried in
-    record { same = search; room = room_kept d (c.requires.1, c.requires.2, c.requires.3); done = d }
+    record { same = search; room = room_kept d c.requires.1; done = d }
 
 pub returns-clause-done : goal.returns-clause-done
 returns-clause-done c =
@@ -52,4 +52,4 @@ returns-clause-done c =
     let e : c.loop-k.k ≡ 5 = omega arith in
     rw c.joined.ensures
     (delivery-done (bits 5) _ _ _ (bits-done 5 _ _ _ (rw e at c.loop-k.invariant.done))
-    (due_fits 22 25 25 (lists_of a.lists.now) (c.requires.1, c.requires.2, c.requires.3)))
+    (due_fits 22 25 25 (lists_of a.lists.now) c.requires.1))

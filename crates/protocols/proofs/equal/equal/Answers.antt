@@ -25,4 +25,4 @@ returns-then-not-have_room-clause-done c =
 pub folds-requires : goal.folds-requires
 folds-requires c =
     let h = rooms 11 15 15 (lists_of c.args.lists.now) (cc) in
-    (rw table_at_32.equal_row.drawn (cc), h.0, h.1, h.2)
+    (rw table_at_32.equal_row.drawn (cc), h)

@@ -30,7 +30,7 @@ loop-k-init c =
     let d =
     folds-begun 5 (operands a.u a.v) a.place (tapes_of a.tapes.now) (sym c.draw.ensures ∙ ap drawn c.in-Some.is) _
     (cc) (lists_of a.lists.now) _ c.compare-held.result c.compare-held.ensures.compared in
-    record { same = c.compare-held.ensures.same; room = room_kept d (c.requires.1, c.requires.2, c.requires.3); done = d }
+    record { same = c.compare-held.ensures.same; room = room_kept d c.requires.1; done = d }
 
 pub returns-in_default-draw_each-2-clause-done : goal.returns-in_default-draw_each-2-clause-done
 returns-in_default-draw_each-2-clause-done c =
@@ -47,7 +47,7 @@ loop-k-preserved c =
     let d =
     folds_more 5 (operands c.args.u c.args.v) _ _ c.loop-k.k c.loop-k.invariant.done _
     (cc) _ c.round-held.result c.round-held.ensures.folded in
-    record { same = search; room = room_kept d (c.requires.1, c.requires.2, c.requires.3); done = d }
+    record { same = search; room = room_kept d c.requires.1; done = d }
 
 pub returns-clause-done : goal.returns-clause-done
 returns-clause-done c =
@@ -55,5 +55,5 @@ returns-clause-done c =
     let e : c.loop-k.k ≡ 5 = omega arith in
     simp tail_back
     (equal_ends 5 (operands a.u a.v) a.place (tapes_of a.tapes.now) (rw e at c.loop-k.invariant.done) c.requires.0
-    (due_fits 11 15 15 (lists_of a.lists.now) (c.requires.1, c.requires.2, c.requires.3))
+    (due_fits 11 15 15 (lists_of a.lists.now) c.requires.1)
     c.convert.result _ _ (rw (tail_lent, tail_lent) at c.convert.ensures))
