@@ -20,7 +20,7 @@ sys.dont_write_bytecode = True
 from protocol_vectors import COMMANDS, MINERS, RING, WIDTH, Run, words_from
 
 CRATE = pathlib.Path(__file__).resolve().parent.parent / "crates" / "commands"
-ROOM, LARGEST = 1024, 400000  # what the program holds: words in each list; bytes of text
+ROOM, LARGEST = 1024, 400000  # what the program holds: words in a list, or in inputs and tapes together; bytes of text
 LAST = RING - 1
 # What a field of a command is: nothing, a handle of kind 1 or of kind 2, any word, a bit position.
 UNUSED, VALUE, BITS, WORD, POSITION = "unused", "value", "bits", "word", "position"
@@ -170,7 +170,7 @@ class Case:
 
     def given(self):
         """The case as the program reads it."""
-        assert max(map(len, self.lists.values())) <= ROOM
+        assert max(map(len, self.lists.values())) <= ROOM and sum(len(self.lists[name]) for name in READ) <= ROOM
         yield f"case {self.name}"
         for name in (*READ, *LISTS, *TABLES):
             yield " ".join([name, f"{len(self.lists[name])}:", *map(str, self.lists[name])])

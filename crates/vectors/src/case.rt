@@ -1,7 +1,7 @@
 // Generated cases: operands, a place that has moved on already, and tapes.
 use crate::lists::Delivered;
 use crate::words::Generator;
-use crate::{lists, print, short, words};
+use crate::{lists, print, short};
 use machine::code::Code;
 use machine::given::Given;
 use machine::row;
@@ -50,8 +50,8 @@ fn near(u: Shares, v: Shares, word: u32) -> Shares {
 
 // The next two values and an input.
 fn operands(code: Code, generator: &mut Generator) -> Given {
-    let u = words::shares(generator.words());
-    let v = words::shares(generator.words());
+    let u = Shares::from(generator.words());
+    let v = Shares::from(generator.words());
     let input = generator.next_word();
     let given = Given { input, u, v };
     match code {

@@ -1,5 +1,4 @@
 // Lists of words for the cases: those of a congruential generator, or numbers in a row.
-use protocols::shares::Shares;
 use std::array;
 
 // A generator, where it is.
@@ -23,12 +22,6 @@ impl Generator {
     pub(crate) fn words<const N: usize>(&mut self) -> [u32; N] {
         array::from_fn(|_| self.next_word())
     }
-}
-
-// Three words as shares.
-pub(crate) fn shares(words: [u32; 3]) -> Shares {
-    let [one, two, three] = words;
-    Shares { one, two, three }
 }
 
 // Numbers in a row.

@@ -14,7 +14,7 @@ use std::io::Write;
 fn with(u: [u32; 3], input: u32) -> Given {
     Given {
         input,
-        u: words::shares(u),
+        u: Shares::from(u),
         v: Shares::default(),
     }
 }
@@ -22,7 +22,7 @@ fn with(u: [u32; 3], input: u32) -> Given {
 // Two shared values.
 fn pair(u: [u32; 3], v: [u32; 3]) -> Given {
     Given {
-        v: words::shares(v),
+        v: Shares::from(v),
         ..with(u, 0)
     }
 }

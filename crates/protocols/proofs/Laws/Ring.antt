@@ -94,6 +94,12 @@ module _ (m : ℕ) (pos : 0 < m) where
       let (q, e) = add_r s (sub m d s) in
       same-mod (add m s (sub m d s)) d (q + k) l (add-lt _ _) h (omega (arith, e, f))
 
+  -- the difference is the one word that b added to makes a
+  pub sub_unique : (r a b : ℕ) → r < m → a < m → (r + b) % m ≡ a → r ≡ sub m a b
+  sub_unique r a b hr ha e =
+      let (q, k, f) = sub_r a b in
+      same-mod r (sub m a b) k ((r + b) / m + q) hr (sub-lt a b) (omega (arith, e, f, div-add-mod' (r + b) m))
+
 -- a product of two words fits twice the width
 pub product_lt : (w : ℕ) {a b : ℕ} → a < 2 ^ w → b < 2 ^ w → a * b < 2 ^ (w + w)
 product_lt w {a} {b} ha hb =
