@@ -14,5 +14,6 @@ pub mod Text
 pub mod OpenLines
 pub mod RunLines
 pub mod Report
+pub mod Numbers
 pub mod EntryOne
 pub mod EntryTwo

@@ -1,23 +1,34 @@
 -- The decimal form of a number: it spells the number, in digits, and starts with no zero.
-use Prim.Native.Nat.{ℕ, zero, suc, ◌+◌, ◌/◌, ◌^◌, ◌≤◌, ◌<◌}
-use mathlib.Core.Path.{◌≡◌}
+use Prim.Native.Nat.{ℕ, zero, suc, ◌+◌, ◌-◌, ◌*◌, ◌/◌, ◌^◌, ◌≤◌, ◌<◌}
+use mathlib.Core.Path.{◌≡◌, refl}
 use mathlib.Core.List.{List, [], ◌∷◌, ◌++◌}
 use native.Mathlib.Decide.{dec_lt}
+use native.Mathlib.Nat.{pow-suc}
 use native.Mathlib.Omega.{arith}
 use lib.ListN.{length, get_or}
-use Rattle.std.proofs.Common.{rules}
-use Rattle.std.proofs.lemmas.Fmt.{digits_value-decimal, first_decimal}
-use Rattle.std.proofs.lemmas.Str.Parse.{IsNumeralModel, numerals_by_fold, tells_by_index}
+use Rattle.std.proofs.lemmas.Fmt.{first_decimal}
 use Rattle.session.specs.Text.{last_digit, digits, decimal, value_of}
 use Rattle.session.proofs.Laws.Digits.{appends, decimal_is}
 
--- the library's words for digits and their value, in those of the claim
-own : IsNumeralModel (λ l. (i : ℕ) → i < length l → (48 ≤ get_or l i 0) × (get_or l i 0 ≤ 57)) (value_of 0)
+-- ---- the number spelt
+
+value-append : (n : ℕ) (l t : List ℕ) → value_of n (l ++ t) ≡ value_of (value_of n l) t
 unfolding value_of
-own = numerals_by_fold _ tells_by_index value_of (search rules)
+value-append n [] t = refl
+value-append n (d ∷ l) t = value-append (10 * n + (d - 48)) l t
+
+-- in so many digits as hold it
+spells-within : (k n : ℕ) → n < 10 ^ suc k → value_of 0 (digits (suc k) n) ≡ n
+unfolding value_of
+spells-within zero n h = rw (appends.one 0 n (omega arith)) (omega arith)
+spells-within (suc k) n h = by_size (dec_lt n 10) (spells-within k (n / 10) (omega (arith, pow-suc 10 (suc k))))
+  where
+    by_size : Dec (n < 10) → value_of 0 (digits (suc k) (n / 10)) ≡ n / 10 → value_of 0 (digits (suc (suc k)) n) ≡ n
+    by_size (yes one) e = rw (appends.one (suc k) n one) (omega arith)
+    by_size (no more) e = rw (appends.more (suc k) n (omega arith), value-append, e) (omega arith)
 
 pub spells : (n : ℕ) → n < 2 ^ 64 → value_of 0 (decimal n) ≡ n
-spells n h = rw (decimal_is n h) (digits_value-decimal own n h)
+spells n h = spells-within 19 n (omega arith)
 
 -- ---- its digits
 

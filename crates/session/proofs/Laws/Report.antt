@@ -162,7 +162,7 @@ module _ (a : SessionAnswer) (w shares : List ℕ) where
   early_text e = rw e
 
   -- the lines of opens among the first words of the commands
-  abbrev opens_in : ℕ → List ℕ
+  abbrev pub opens_in : ℕ → List ℕ
   opens_in n = lines_with (commands_of (take n (drop 12 w))) (sums_in_threes (modulus 5) (take a.place.received.controller shares))
 
   pub late_text : (n : ℕ) → n ≡ 3 * a.done → is_early a.number ≡ false → text_from a w shares ≡ opens_in n ++ last_line a
