@@ -1,5 +1,5 @@
-// Bits. (A round is a number, and each function of one asks that it is below 5: a type for it would ask the same of its maker.)
-ghost use Rattle.std.specs.Prelude.{◌≡◌, ◌+◌, ◌*◌, ◌<◌, true, []};
+// Bits.
+ghost use Rattle.std.specs.Prelude.{◌≡◌, ◌+◌, ◌*◌, true, []};
 ghost use Rattle.protocols.specs.Word.{modulus, width};
 ghost use Rattle.protocols.specs.Place.{tapes, lists, enough, to_next, to_two_three, ◌followed_by◌};
 ghost use Rattle.protocols.specs.Protocol.{perform};
@@ -11,6 +11,7 @@ ghost use Rattle.protocols.specs.WordForm as word;
 ghost use Rattle.protocols.specs.Bits as spec;
 
 use super::lent::{Lists, Tapes};
+use super::masked::Round;
 use super::outcome::{Done, Shortage};
 use super::place::{Party, Place};
 use super::shares::Shares;
@@ -54,38 +55,34 @@ static CLEAR: [u32; 5] = [
 ];
 
 // Each source's bit at every position that takes from it in round k.
-fn spread(k: u32, x: u32) -> u32
-    requires { k < 5 }
-    ensures { result ≡ word.spread 5 k x }
+fn spread(round: Round, x: u32) -> u32
+    ensures { result ≡ word.spread 5 round.k x }
 {
-    let t = x & SOURCES[k as usize];
-    ((t << (1u32 << k)) - t) << 1
+    let t = x & SOURCES[round.k as usize];
+    ((t << (1u32 << round.k)) - t) << 1
 }
 
 // A miner's s after round k, from its own masked shares p, s and the previous miner's x, y.
-fn round_s(k: u32, p: u32, x: u32, s: u32, y: u32) -> u32
-    requires { k < 5 }
-    ensures { result ≡ spec.round_s (width 5) k p x s y }
+fn round_s(round: Round, p: u32, x: u32, s: u32, y: u32) -> u32
+    ensures { result ≡ spec.round_s (width 5) round.k p x s y }
 {
-    s ^ masked::and_share(p, x, spread(k, s), spread(k, y))
+    s ^ masked::and_share(p, x, spread(round, s), spread(round, y))
 }
 
 // A miner's p after round k.
-fn round_p(k: u32, p: u32, x: u32) -> u32
-    requires { k < 5 }
-    ensures { result ≡ spec.round_p (width 5) k p x }
+fn round_p(round: Round, p: u32, x: u32) -> u32
+    ensures { result ≡ spec.round_p (width 5) round.k p x }
 {
-    (p & CLEAR[k as usize]) ^ masked::and_share(p, x, spread(k, p), spread(k, x))
+    (p & CLEAR[round.k as usize]) ^ masked::and_share(p, x, spread(round, p), spread(round, x))
 }
 
 // Round k on every miner's masked shares, with the masks of the next round.
-fn carried(k: u32, p: Shares, s: Shares, q: Shares, t: Shares, base: Shares) -> Held
-    requires { k < 5 }
-    ensures { result ≡ spec.carried (width 5) k p s q t base }
+fn carried(round: Round, p: Shares, s: Shares, q: Shares, t: Shares, base: Shares) -> Held
+    ensures { result ≡ spec.carried (width 5) round.k p s q t base }
 {
     Held {
-        p: p.zip(p.previous(), |own, previous| round_p(k, own, previous)),
-        s: p.zip_previous(s, |p, s, x, y| round_s(k, p, x, s, y)),
+        p: p.zip(p.previous(), |own, previous| round_p(round, own, previous)),
+        s: p.zip_previous(s, |p, s, x, y| round_s(round, p, x, s, y)),
         q,
         t,
         base,
@@ -146,16 +143,16 @@ fn deal(u: Shares, words: &[u32; 3], q: Shares, t: Shares, lists: &mut Lists) ->
 }
 
 // Round k: the masked shares and the masks of the next round sent on, and what the miners then hold.
-fn round(k: u32, held: Held, q: Shares, t: Shares, lists: &mut Lists) -> Held
-    requires { (k < 5) × Room 22 25 25 (lists_of lists.old) }
+fn round(round: Round, held: Held, q: Shares, t: Shares, lists: &mut Lists) -> Held
+    requires { Room 22 25 25 (lists_of lists.old) }
     ensures same { Same lists.old lists.new }
-    ensures carried { let p = masked held.p held.q in let s = masked held.s held.t in let w = to_next p followed_by to_next s followed_by to_next q followed_by to_next t in (result ≡ spec.carried (width 5) k p s q t held.base) × (lists_of lists.new ≡ puts (received (2 + 4 * k) (5 + 4 * k) (5 + 4 * k) 0) (lists_of lists.old) w) }
+    ensures carried { let p = masked held.p held.q in let s = masked held.s held.t in let w = to_next p followed_by to_next s followed_by to_next q followed_by to_next t in (result ≡ spec.carried (width 5) round.k p s q t held.base) × (lists_of lists.new ≡ puts (let n = 4 * round.k in received (2 + n) (5 + n) (5 + n) 0) (lists_of lists.old) w) }
 {
     let p = masked::masked(held.p, held.q);
     let s = masked::masked(held.s, held.t);
-    let sent = 4 * k as usize;
+    let sent = 4 * round.k as usize;
     lists.pass(2 + sent, 5 + sent, &[p, s, q, t]);
-    carried(k, p, s, q, t, held.base)
+    carried(round, p, s, q, t, held.base)
 }
 
 // The dealing and the rounds, where every tape and list has enough.
@@ -182,7 +179,7 @@ pub(crate) fn rounds(
         let Some(((q, t), next)) = at.draw_pairs(tapes) else {
             return Err(Shortage::TapeSpent);
         };
-        held = round(k, held, q, t, lists);
+        held = round(Round { k }, held, q, t, lists);
         at = next;
     }
     Ok(Done {

@@ -1,5 +1,5 @@
-// Equal. (A round is a number below 5, as in Bits.)
-ghost use Rattle.std.specs.Prelude.{◌≡◌, ◌+◌, ◌*◌, ◌<◌, true, []};
+// Equal.
+ghost use Rattle.std.specs.Prelude.{◌≡◌, ◌+◌, ◌*◌, true, []};
 ghost use Rattle.protocols.specs.Word.{modulus, width};
 ghost use Rattle.protocols.specs.Shares.{operands};
 ghost use Rattle.protocols.specs.Place.{tapes, lists, enough, to_next, ◌followed_by◌};
@@ -12,6 +12,7 @@ ghost use Rattle.protocols.specs.WordForm as word;
 ghost use Rattle.protocols.specs.Equal as spec;
 
 use super::lent::{Lists, Tapes};
+use super::masked::Round;
 use super::outcome::{Done, Shortage};
 use super::place::{Party, Place};
 use super::shares::Shares;
@@ -43,24 +44,22 @@ static OTHERS: [u32; 5] = [
 ];
 
 // A miner's p after round k, from its own masked share and the previous miner's.
-fn fold_share(k: u32, p: u32, x: u32) -> u32
-    requires { k < 5 }
-    ensures { result ≡ spec.fold_share (width 5) k p x }
+fn fold_share(round: Round, p: u32, x: u32) -> u32
+    ensures { result ≡ spec.fold_share (width 5) round.k p x }
 {
-    let heads = HEADS[k as usize];
-    let others = OTHERS[k as usize];
-    let stride = 1u32 << k;
+    let heads = HEADS[round.k as usize];
+    let others = OTHERS[round.k as usize];
+    let stride = 1u32 << round.k;
     (p & others) ^ masked::and_share(p, x, (p >> stride) & heads, (x >> stride) & heads)
 }
 
 // Round k on every miner's masked shares, with the masks of the next round.
-fn folded(k: u32, p: Shares, q: Shares) -> Folding
-    requires { k < 5 }
-    ensures { result ≡ spec.folded (width 5) k p q }
+fn folded(round: Round, p: Shares, q: Shares) -> Folding
+    ensures { result ≡ spec.folded (width 5) round.k p q }
 {
     Folding {
         p: p.zip(p.previous(), |own, previous| {
-            fold_share(k, own, previous)
+            fold_share(round, own, previous)
         }),
         q,
     }
@@ -97,15 +96,15 @@ fn compare(u: Shares, v: Shares, words: &[u32; 1], q: Shares, lists: &mut Lists)
 }
 
 // Round k: the masked shares and the masks of the next round sent on, and what the miners then hold.
-fn round(k: u32, held: Folding, q: Shares, lists: &mut Lists) -> Folding
-    requires { (k < 5) × Room 11 15 15 (lists_of lists.old) }
+fn round(round: Round, held: Folding, q: Shares, lists: &mut Lists) -> Folding
+    requires { Room 11 15 15 (lists_of lists.old) }
     ensures same { Same lists.old lists.new }
-    ensures folded { let p = masked held.p held.q in let w = to_next p followed_by to_next q in (result ≡ spec.folded (width 5) k p q) × (lists_of lists.new ≡ puts (received (1 + 2 * k) (2 + 2 * k) (2 + 2 * k) 0) (lists_of lists.old) w) }
+    ensures folded { let p = masked held.p held.q in let w = to_next p followed_by to_next q in (result ≡ spec.folded (width 5) round.k p q) × (lists_of lists.new ≡ puts (let n = 2 * round.k in received (1 + n) (2 + n) (2 + n) 0) (lists_of lists.old) w) }
 {
     let p = masked::masked(held.p, held.q);
-    let sent = 2 * k as usize;
+    let sent = 2 * round.k as usize;
     lists.pass(1 + sent, 2 + sent, &[p, q]);
-    folded(k, p, q)
+    folded(round, p, q)
 }
 
 // The folds and Bit, where every tape and list has enough.
@@ -132,7 +131,7 @@ fn folds(
         let Some((q, next)) = at.draw_each(tapes) else {
             return Err(Shortage::TapeSpent);
         };
-        held = round(k, held, q, lists);
+        held = round(Round { k }, held, q, lists);
         at = next;
     }
     bit::convert(

@@ -1,8 +1,15 @@
 // What the rounds of Bits and Equal share.
-ghost use Rattle.std.specs.Prelude.{◌≡◌};
+ghost use Rattle.std.specs.Prelude.{◌≡◌, ◌<◌};
 ghost use Rattle.protocols.specs.Masked as spec;
 
 use super::shares::Shares;
+
+// A round's number: there are five.
+#[derive(Clone, Copy)]
+pub(crate) struct Round {
+    pub(crate) k: u32,
+    ghost below: { k < 5 },
+}
 
 // Shares masked with own and previous masks, by exclusive or.
 pub fn masked(p: Shares, q: Shares) -> Shares

@@ -14,5 +14,5 @@ listed = each_round _ refl refl refl refl refl
 pub returns : goal.returns
 unfolding word_p
 returns c =
-    rw (listed c.args.k c.requires, c.and_share.ensures, c.spread.ensures, c.spread-2.ensures)
-    ((word_forms 5 c.args.k c.requires).form_p c.args.p c.args.x)
+    rw (listed c.args.round.k c.args.round.below, c.and_share.ensures, c.spread.ensures, c.spread-2.ensures)
+    ((word_forms 5 c.args.round.k c.args.round.below).form_p c.args.p c.args.x)

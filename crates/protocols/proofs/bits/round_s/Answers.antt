@@ -8,4 +8,4 @@ unfolding word_s
 returns c =
     let a = c.args in
     rw (c.and_share.ensures, c.spread.ensures, c.spread-2.ensures)
-    ((word_forms 5 a.k c.requires).form_s a.p a.x a.s a.y c.ranges.s.fits)
+    ((word_forms 5 a.round.k a.round.below).form_s a.p a.x a.s a.y c.ranges.s.fits)

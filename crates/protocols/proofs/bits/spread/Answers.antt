@@ -12,4 +12,4 @@ listed = each_round _ refl refl refl refl refl
 
 pub returns : goal.returns
 unfolding spread
-returns c = rw (stride c.args.k c.requires, listed c.args.k c.requires)
+returns c = rw (stride c.args.round.k c.args.round.below, listed c.args.round.k c.args.round.below)

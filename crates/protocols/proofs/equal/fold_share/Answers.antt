@@ -19,6 +19,6 @@ others_listed = each_round _ refl refl refl refl refl
 pub returns : goal.returns
 unfolding word_fold
 returns c =
-    let k = c.args.k in
-    let h = c.requires in
+    let k = c.args.round.k in
+    let h = c.args.round.below in
     rw (c.and_share.ensures, stride k h, others_listed k h, heads_listed k h) ((word_forms 5 k h).form_fold c.args.p c.args.x)
