@@ -1,5 +1,5 @@
 -- Deliveries: an answer's words at the front of the lent lists.
-use Rattle.std.proofs.Common.{◌≡◌, ℕ, ◌<◌, ◌≤◌, Bool, true, false, ◌&&◌, leb, List, [], ◌∷◌, ◌++◌, length, drop, sym, refl, ap, ◌∙◌, subst, zero-add, arith, le-leb, leb-true}
+use Rattle.std.proofs.Common.{◌≡◌, ℕ, ◌<◌, ◌≤◌, Bool, true, false, cond, ◌&&◌, leb, List, [], ◌∷◌, ◌++◌, length, drop, sym, refl, ap, ◌∙◌, subst, zero-add, arith, le-leb, leb-true}
 use borrow.Author.Tests.{lt-leb}
 use lib.Dec.{leb-zero}
 use lib.Seq.{sets, sets-eq}
@@ -14,7 +14,7 @@ use Rattle.std.specs.Prelude.{Result, Ok, Err}
 use Rattle.protocols.specs.declared.outcome.Done.{Done}
 use Rattle.protocols.specs.declared.outcome.Shortage.{Shortage}
 use Rattle.protocols.specs.declared.outcome.Shortage.TheVariants.{TapeSpent, ListFull}
-use Rattle.protocols.specs.Outcome.{Outcome, outcome, Delivered, finished, refused, delivered, delivery, room, fronts, puts}
+use Rattle.protocols.specs.Outcome.{Outcome, list_full, number, outcome, Delivered, finished, refused, delivered, delivery, room, fronts, puts}
 use Rattle.protocols.specs.Counts.{received, due}
 use Rattle.protocols.specs.Lent.{Room}
 use Rattle.protocols.specs.Claims.{Delivers}
@@ -94,11 +94,30 @@ not_spent {T = T} f s p t e g A = let z = ap number (rw e at g) in absurd (omega
 
 -- ---- what the code answers, from any place
 
--- what is done is done from any place
-pub done_anywhere : (p q : Place) (r : Result Done Shortage) {x : Shares} {y : Place} → outcome q r ≡ finished x y → outcome p r ≡ outcome q r
-done_anywhere p q (Ok d) e = refl
-done_anywhere p q (Err TapeSpent) e = let z = ap (λ (o : Outcome). o.number) e in absurd (omega (arith, z))
-done_anywhere p q (Err ListFull) e = let z = ap (λ (o : Outcome). o.number) e in absurd (omega (arith, z))
+-- what is turned down leaves the place
+place_kept : (p : Place) (a : Answer Shares) (l : Lists) → ¬ ((delivery p a l).outcome.number ≡ 0) → (delivery p a l).outcome.place ≡ p
+place_kept p spent l h = refl
+place_kept p (done s w q) l h = by_room (room l w) h
+  where
+    by_room : (b : Bool) → let d = cond b (delivered (finished s q) (fronts l w)) (delivered (refused list_full p) l) in ¬ (d.outcome.number ≡ 0) → d.outcome.place ≡ p
+    by_room true h = absurd (h refl)
+    by_room false h = refl
+
+-- An answer is told from the place q of a protocol's last part; from p, where the whole began, it says the same: what is done brings its own
+-- place, and what is turned down has left the place as it was.
+pub from_start : {S : Type 0} (f : Protocol S Shares) (s : S) (p : Place) (t : Tapes) (l₀ : Lists) (q : Place) (r : Result Done Shortage) (l : Lists)
+    → delivered (outcome q r) l ≡ delivery p (perform f s p t) l₀ → delivered (outcome p r) l ≡ delivery p (perform f s p t) l₀
+from_start f s p t l₀ q (Ok d) l h = h
+from_start f s p t l₀ q (Err e) l h = ap (λ (z : Place). delivered (refused (number e) z) l) (sym same) ∙ h
+  where
+    not_none : (w : Shortage) → ¬ (number w ≡ 0)
+    not_none TapeSpent z = absurd (omega (arith, z))
+    not_none ListFull z = absurd (omega (arith, z))
+
+    same : q ≡ p
+    same =
+        ap (λ (d : Delivered). d.outcome.place) h
+        ∙ place_kept p (perform f s p t) l₀ (λ z. not_none e (ap (λ (d : Delivered). d.outcome.number) h ∙ z))
 
 -- tapes and lists that have enough are not short
 pub not_short : {S : Type 0} (f : Protocol S Shares) (s : S) (p : Place) (t : Tapes) (l₀ l : Lists) → enough f.draws p t ≡ true

@@ -4,12 +4,10 @@ use Rattle.protocols.specs.declared.place.Party.TheVariants.{Provider, One, Two,
 use Rattle.protocols.specs.declared.bits.Dealt.{Dealt}
 use Rattle.protocols.specs.declared.bits.Held.{Held}
 use Rattle.protocols.specs.declared.place.Received.{Received}
-use Rattle.std.specs.Prelude.{Result, Some, None}
-use Rattle.protocols.specs.declared.outcome.Done.{Done}
-use Rattle.protocols.specs.declared.outcome.Shortage.{Shortage}
-use Rattle.protocols.specs.Outcome.{Outcome, outcome, Delivered, finished, delivered, delivery, holds, fronts, puts}
+use Rattle.std.specs.Prelude.{Some, None}
+use Rattle.protocols.specs.Outcome.{Outcome, Delivered, finished, delivered, delivery, holds, fronts, puts}
 use Rattle.protocols.specs.Counts.{received, plus_received, due}
-use Rattle.protocols.proofs.Laws.Deliveries.{one_kept, controller_kept, both, has_room, fronts_puts, room_true, not_spent, done_anywhere}
+use Rattle.protocols.proofs.Laws.Deliveries.{one_kept, controller_kept, both, has_room, fronts_puts, room_true, not_spent}
 use Rattle.protocols.specs.Masked.{masked}
 use Rattle.protocols.specs.Bit.{bit}
 use Rattle.protocols.specs.Bits.{deal, begun, exchange, carried, round, rounds, joined, bits}
@@ -275,9 +273,9 @@ module _ (n : ℕ) (x : Operands) (p : Place) (t : Tapes) where
 module _ {S : Type 0} (f : Protocol S Shares) (s : S) (p : Place) (t : Tapes) (m j : ℕ) (w : Lists) (k : Received) (long : (r : Receiver) → length (list r w) ≡ due r k) where
   pub bit_last : {l₀ l : Lists} → l ≡ fronts l₀ w → (y : Shares) (q : Place) → perform f s p t ≡ preceded w (perform (bit m j) y q t)
       → enough f.draws p t ≡ true → ((r : Receiver) → due r (plus_received k (received 0 3 3 0)) ≤ length (list r l₀))
-      → (o : Result Done Shortage) (a b : List ℕ)
-      → delivered (outcome q o) (lists [] a b []) ≡ delivery q (perform (bit m j) y q (tapes [] t.one [] [])) (lists [] (drop k.two l.two) (drop k.three l.three) [])
-      → delivered (outcome p o) (lists l.one (take k.two l.two ++ a) (take k.three l.three ++ b) l.controller) ≡ delivery p (perform f s p t) l₀
+      → (o : Outcome) (a b : List ℕ)
+      → delivered o (lists [] a b []) ≡ delivery q (perform (bit m j) y q (tapes [] t.one [] [])) (lists [] (drop k.two l.two) (drop k.three l.three) [])
+      → delivered o (lists l.one (take k.two l.two ++ a) (take k.three l.three ++ b) l.controller) ≡ delivery p (perform f s p t) l₀
   unfolding bit
   bit_last {l₀} {l} are y q is e have o a b h = by_tape (enough (counts 0 3 0 0) q t) refl
     where
@@ -315,14 +313,12 @@ module _ {S : Type 0} (f : Protocol S Shares) (s : S) (p : Place) (t : Tapes) (m
       back x = delivered x.outcome (lists l.one (take k.two l.two ++ x.lists.two) (take k.three l.three ++ x.lists.three) l.controller)
 
       by_tape : (x : Bool) → enough (counts 0 3 0 0) q t ≡ x
-          → delivered (outcome p o) (lists l.one (take k.two l.two ++ a) (take k.three l.three ++ b) l.controller) ≡ delivery p (perform f s p t) l₀
+          → delivered o (lists l.one (take k.two l.two ++ a) (take k.three l.three ++ b) l.controller) ≡ delivery p (perform f s p t) l₀
       by_tape false g = not_spent f s p t e (is ∙ ap (preceded w) (is_spent (bit m j) y q t g)) _
       by_tape true g =
           let d : delivery q (perform (bit m j) y q (tapes [] t.one [] [])) tails ≡ delivered o' (fronts tails w') =
           rw (← (bit_of_one m j y q t), performs (bit m j) y q t g, room_true tails w' tails_fit) in
-          ap (λ (x : Outcome). delivered x (lists l.one (take k.two l.two ++ a) (take k.three l.three ++ b) l.controller))
-          (done_anywhere p q o (ap (λ (x : Delivered). x.outcome) (h ∙ d)))
-          ∙ ap back (h ∙ d)
+          ap back (h ∙ d)
           ∙ (λ i. delivered o' (lists l.one (tail_sets l.two w'.two k.two (omega (arith, long-two, have (miner two))) i)
           (tail_sets l.three w'.three k.three (omega (arith, long-three, have (miner three))) i) l.controller))
           ∙ ap (λ (x : Lists). delivered o' (puts k x w')) are
@@ -332,9 +328,9 @@ module _ {S : Type 0} (f : Protocol S Shares) (s : S) (p : Place) (t : Tapes) (m
 -- Bit on position 0 ends Equal
 module _ (n : ℕ) (x : Operands) (p : Place) (t : Tapes) {l₀ l : Lists} {h : Folding} {k : Received} {q : Place} (d : Performed (folds n n) x p t l₀ h l k q) where
   pub equal_ends : enough (equal n).draws p t ≡ true → ((r : Receiver) → due r (plus_received k (received 0 3 3 0)) ≤ length (list r l₀))
-      → (o : Result Done Shortage) (a b : List ℕ)
-      → delivered (outcome q o) (lists [] a b []) ≡ delivery q (perform (bit (modulus n) 0) h.p q (tapes [] t.one [] [])) (lists [] (drop k.two l.two) (drop k.three l.three) [])
-      → delivered (outcome p o) (lists l.one (take k.two l.two ++ a) (take k.three l.three ++ b) l.controller) ≡ delivery p (perform (equal n) x p t) l₀
+      → (o : Outcome) (a b : List ℕ)
+      → delivered o (lists [] a b []) ≡ delivery q (perform (bit (modulus n) 0) h.p q (tapes [] t.one [] [])) (lists [] (drop k.two l.two) (drop k.three l.three) [])
+      → delivered o (lists l.one (take k.two l.two ++ a) (take k.three l.three ++ b) l.controller) ≡ delivery p (perform (equal n) x p t) l₀
   unfolding equal
   equal_ends = bit_last (equal n) x p t (modulus n) 0 d.words k d.long d.are h.p q
       (then_done (folds n n) (locally (λ h. h.p) then bit (modulus n) 0) x p t d.is ∙ ap (preceded d.words) (locally_then (λ h. h.p) (bit (modulus n) 0) h q t))
@@ -354,10 +350,10 @@ module _ (n : ℕ) (x : Operands) (p : Place) (t : Tapes) where
       → ((s : Shares) (b : Tapes) (r : Receiver) → length (list r ((bits n).received s b)) ≡ due r k)
       → (l₀ : Lists) → ((r : Receiver) → due r (plus_received k (received 0 3 3 0)) ≤ length (list r l₀)) → ((r : Receiver) → due r k ≤ length (list r l₀))
       → (w : Outcome) (l : Lists) → delivered w l ≡ delivery p (perform (bits n) (difference (modulus n) x) p t) l₀
-      → (o : Result Done Shortage) (a b : List ℕ)
-      → delivered (outcome w.place o) (lists [] a b [])
+      → (o : Outcome) (a b : List ℕ)
+      → delivered o (lists [] a b [])
       ≡ delivery w.place (perform (bit (modulus n) (width n - 1)) w.shares w.place (tapes [] t.one [] [])) (lists [] (drop k.two l.two) (drop k.three l.three) [])
-      → delivered (outcome p o) (lists l.one (take k.two l.two ++ a) (take k.three l.three ++ b) l.controller) ≡ delivery p (perform (below n) x p t) l₀
+      → delivered o (lists l.one (take k.two l.two ++ a) (take k.three l.three ++ b) l.controller) ≡ delivery p (perform (below n) x p t) l₀
   below_ends e k long l₀ all some w l made o a b h = by_tapes (enough (bits n).draws p t) refl
     where
       u : Shares
@@ -370,7 +366,7 @@ module _ (n : ℕ) (x : Operands) (p : Place) (t : Tapes) where
       v = (bits n).received u c
 
       by_tapes : (i : Bool) → enough (bits n).draws p t ≡ i
-          → delivered (outcome p o) (lists l.one (take k.two l.two ++ a) (take k.three l.three ++ b) l.controller) ≡ delivery p (perform (below n) x p t) l₀
+          → delivered o (lists l.one (take k.two l.two ++ a) (take k.three l.three ++ b) l.controller) ≡ delivery p (perform (below n) x p t) l₀
       by_tapes false g = not_spent (below n) x p t e (below_from (is_spent (bits n) u p t g)) _
       by_tapes true g =
           let f = performs (bits n) u p t g in

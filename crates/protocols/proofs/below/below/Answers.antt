@@ -6,7 +6,7 @@ use Rattle.protocols.specs.Counts.{received}
 use Rattle.protocols.specs.Lent.{tapes_of, lists_of}
 use Rattle.protocols.specs.Bits.{bits}
 use Rattle.protocols.specs.Below.{below}
-use Rattle.protocols.proofs.Laws.Deliveries.{due_fits, words_lack, room_lacks, not_short}
+use Rattle.protocols.proofs.Laws.Deliveries.{from_start, due_fits, words_lack, room_lacks, not_short}
 use Rattle.protocols.proofs.Laws.Puts.{tail_lent, tail_back}
 use Rattle.protocols.proofs.Laws.Lent.{enough_first, rooms, below_ends}
 use Rattle.protocols.proofs.Laws.Counts.{table_at_32}
@@ -49,9 +49,10 @@ returns-clause-done c =
     let l = lists_of a.lists.now in
     let h = rooms 22 28 28 l (cc) in
     simp tail_back
+    (from_start (below 5) (operands a.u a.v) a.place (tapes_of a.tapes.now) l _ c.convert.result _
     (below_ends 5 (operands a.u a.v) a.place (tapes_of a.tapes.now)
     (rw table_at_32.below_row.drawn (cc))
     (received 22 25 25 0) table_at_32.bits_row.long l (due_fits 22 28 28 l h)
     (due_fits 22 25 25 l (h.0, omega (arith, h.1), omega (arith, h.2)))
     _ _ (rw c.difference.ensures at c.in_ok-word.ensures.done)
-    c.convert.result _ _ (rw (tail_lent, tail_lent) at c.convert.ensures))
+    _ _ _ (rw (tail_lent, tail_lent) at c.convert.ensures)))

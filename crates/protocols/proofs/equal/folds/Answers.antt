@@ -3,7 +3,7 @@ use Rattle.std.proofs.Common.{◌≡◌, ◌+◌, sym, ap, ◌∙◌, arith}
 use Rattle.protocols.specs.Shares.{operands}
 use Rattle.protocols.specs.Lent.{tapes_of, lists_of, drawn}
 use Rattle.protocols.specs.Equal.{equal}
-use Rattle.protocols.proofs.Laws.Deliveries.{not_spent, due_fits}
+use Rattle.protocols.proofs.Laws.Deliveries.{from_start, not_spent, due_fits}
 use Rattle.protocols.proofs.Laws.Puts.{tail_lent, tail_back}
 use Rattle.protocols.proofs.Laws.Lent.{folds-begun, folds_unmasked, folds_uncompared, folds_more, folds-stopped, equal-spent, equal_ends, room_kept}
 use Rattle.protocols.proofs.equal.folds.Goals as goal
@@ -54,6 +54,7 @@ returns-clause-done c =
     let a = c.args in
     let e : c.loop-k.k ≡ 5 = omega arith in
     simp tail_back
+    (from_start (equal 5) (operands a.u a.v) a.place (tapes_of a.tapes.now) (lists_of a.lists.now) _ c.convert.result _
     (equal_ends 5 (operands a.u a.v) a.place (tapes_of a.tapes.now) (rw e at c.loop-k.invariant.done) c.requires.0
     (due_fits 11 15 15 (lists_of a.lists.now) c.requires.1)
-    c.convert.result _ _ (rw (tail_lent, tail_lent) at c.convert.ensures))
+    _ _ _ (rw (tail_lent, tail_lent) at c.convert.ensures)))
