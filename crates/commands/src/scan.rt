@@ -1,4 +1,5 @@
-// Reads the text of the cases: numbers, and words that are there for the reader.
+// Reads the text of the cases: numbers, and words that are there for the reader. (No `parse` of words parted by white space: a number ends
+// where its digits end, one that is too large is still one, and a list goes on over the end of a line.)
 ghost use Rattle.std.specs.Prelude.{◌≡◌, ◌++◌};
 
 // What is still to be read.
