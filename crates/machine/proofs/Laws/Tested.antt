@@ -43,6 +43,9 @@ numbered InputsUsed = lit≤ tt
 numbered TapeSpent = lit≤ tt
 numbered ListFull = lit≤ tt
 
+pub not_none : (r : Refusal) → ¬ (number r ≡ 0)
+not_none r z = omega (arith, numbered r, z)
+
 -- a number of the first four checks stays
 ended : (a b c d : Bool) (next : ℕ) {r : ℕ} → r ≡ check 6 a (check 7 b (check 8 c (check 9 d 0))) → 1 ≤ r → r ≡ check 6 a (check 7 b (check 8 c (check 9 d next)))
 ended true true true true next e h = absurd (omega arith)

@@ -6,9 +6,8 @@ use native.Mathlib.Decide.{dec_lt}
 use native.Mathlib.Nat.{pow-suc}
 use native.Mathlib.Omega.{arith}
 use lib.ListN.{length, get_or}
-use Rattle.std.proofs.lemmas.Fmt.{first_decimal}
 use Rattle.session.specs.Text.{last_digit, digits, decimal, value_of}
-use Rattle.session.proofs.Laws.Digits.{appends, decimal_is}
+use Rattle.session.proofs.Laws.Digits.{appends}
 
 -- ---- the number spelt
 
@@ -53,5 +52,21 @@ digits_are (suc k) n = by_size (dec_lt n 10) (digits_are k (n / 10))
 pub are_digits : (n i : ℕ) → i < length (decimal n) → (48 ≤ get_or (decimal n) i 0) × (get_or (decimal n) i 0 ≤ 57)
 are_digits n = digits_are 20 n
 
+-- ---- its first digit
+
+first_stays : (l t : List ℕ) → 48 < get_or l 0 0 → 48 < get_or (l ++ t) 0 0
+first_stays [] t h = let w : ⊥ = omega arith in absurd w
+first_stays (d ∷ l) t h = h
+
+first-within : (k n : ℕ) → 0 < n → n < 10 ^ suc k → 48 < get_or (digits (suc k) n) 0 0
+first-within zero n p h = rw (appends.one 0 n (omega arith)) (omega arith)
+first-within (suc k) n p h = by_size (dec_lt n 10) (first-within k (n / 10))
+  where
+    by_size : Dec (n < 10) → (0 < n / 10 → n / 10 < 10 ^ suc k → 48 < get_or (digits (suc k) (n / 10)) 0 0) → 48 < get_or (digits (suc (suc k)) n) 0 0
+    by_size (yes one) f = rw (appends.one (suc k) n one) (omega arith)
+    by_size (no more) f =
+        rw (appends.more (suc k) n (omega arith))
+        (first_stays (digits (suc k) (n / 10)) (last_digit n ∷ []) (f (omega arith) (omega (arith, pow-suc 10 (suc k)))))
+
 pub no_leading_zero : (n : ℕ) → 0 < n → n < 2 ^ 64 → 48 < get_or (decimal n) 0 0
-no_leading_zero n p h = rw (decimal_is n h) (first_decimal n p h)
+no_leading_zero n p h = first-within 19 n p (omega arith)

@@ -1,7 +1,7 @@
 -- `machine::step::step` meets its contract.
 use Rattle.std.proofs.Common.{refl}
 use Rattle.std.proofs.lemmas.Result.{err_from_is_err_and}
-use Rattle.machine.proofs.Laws.Tested.{begun}
+use Rattle.machine.proofs.Laws.Tested.{not_none, begun}
 use Rattle.machine.proofs.Laws.Step.{unknown_is, refused_is, passed_is}
 use Rattle.machine.proofs.step.step.Goals as goal
 
@@ -14,8 +14,8 @@ pub returns-in_err-fields_and_room-clause-done : goal.returns-in_err-fields_and_
 returns-in_err-fields_and_room-clause-done c =
     let p = err_from_is_err_and c.from_residual-in_err-fields_and_room.result c.from_residual-in_err-fields_and_room.ensures.1 in
     rw (p.1, p.2)
-    (refused_is c.args.c c.args.place _ c.requires _ c.try_from.ensures c.in_ok-code.was _
-    (rw c.kinds.ensures at c.in_err-fields_and_room.ensures) refl)
+    (refused_is c.args.c c.args.place _ c.requires _ c.try_from.ensures c.in_ok-code.was
+    (rw c.kinds.ensures at c.in_err-fields_and_room.ensures) (not_none _) refl)
 
 pub accept-requires : goal.accept-requires
 accept-requires c =
