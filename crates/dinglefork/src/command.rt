@@ -1,4 +1,4 @@
-// The command call. (C lends each list by itself.)
+// The command call. (C calls each of the three functions by its name, and lends each list by itself.)
 ghost use Rattle.std.specs.Prelude.{◌≡◌};
 ghost use Rattle.protocols.specs.Place.{tapes, lists};
 ghost use Rattle.machine.specs.Table as table;

@@ -1,4 +1,4 @@
-// The session call. (C lends each list by itself.)
+// The session call. (C calls each of the three functions by its name, and lends each list by itself.)
 ghost use Rattle.std.specs.Prelude.{◌≡◌};
 ghost use Rattle.protocols.specs.Place.{lists};
 ghost use Rattle.machine.specs.Lent.{tables};

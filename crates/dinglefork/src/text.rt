@@ -1,4 +1,4 @@
-// What the program `pool` prints, at the front of a buffer; answers the text's length. (C lends each list by itself.)
+// What the program `pool` prints, at the front of a buffer; answers the text's length. (C calls each of the three functions by its name, and lends each list by itself.)
 ghost use Rattle.std.specs.Prelude.{◌≡◌};
 ghost use Rattle.protocols.specs.Place.{lists};
 ghost use Rattle.machine.specs.Lent.{tables};

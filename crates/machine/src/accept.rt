@@ -44,19 +44,18 @@ fn counted(p: Place, x: Row) -> Place
     requires { Fits p x }
     ensures { result ≡ spec.counted p x }
 {
-    let drawn = p.drawn;
     let at = p.received;
     let more = x.received;
     Place {
         handles: p.handles + x.values,
         inputs: p.inputs + x.inputs,
-        drawn,
         received: Received {
             one: at.one + more.one,
             two: at.two + more.two,
             three: at.three + more.three,
             controller: at.controller + more.controller,
         },
+        ..p
     }
 }
 
@@ -98,8 +97,8 @@ fn finish(
     })
 }
 
-// On lists that are lent one by one, as the parts of lent lists are. (A struct of the parts, made where they are cut, is a loan that the
-// check does not follow yet.)
+// On lists that are lent one by one, as the parts of lent lists are. (The check's borrow rules do not cover a struct of such parts that is
+// made where they are cut.)
 #[inline(always)]
 fn play_on(
     code: Code,

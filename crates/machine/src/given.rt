@@ -18,7 +18,7 @@ pub struct Given {
 }
 
 impl Given {
-    // From tables that are only read.
+    // From tables that are only read: `Tables` would ask for ones that can be written.
     pub fn of(
         c: Command,
         p: Place,

@@ -9,7 +9,7 @@ use protocols::lent::Tapes;
 use protocols::place::{Drawn, Received};
 use protocols::shares::Shares;
 
-// Three share tables, and the kinds of their entries. (Tables, inputs, tapes and received lists are no one struct: of a struct within a
+// Three share tables, and the kinds of their entries: four lists, as C lends them. (Tables, inputs, tapes and received lists are no one struct: of a struct within a
 // lent struct the check does not tell what its lists hold after a call, and sessions are lent tables and lists alone.)
 #[derive(Drop)]
 pub struct Tables<'a> {
@@ -92,7 +92,7 @@ pub fn entry(list: &[u32], h: u32) -> u32
     read(list, (h as usize).saturating_sub(1))
 }
 
-// The three shares of a handle, from tables that are only read.
+// The three shares of a handle, from tables that are only read: `Tables` would ask for ones that can be written.
 pub fn shares_at(one: &[u32], two: &[u32], three: &[u32], h: u32) -> Shares
     ensures { result ≡ shares_at (tables one.now two.now three.now) h }
 {

@@ -15,7 +15,7 @@ use protocols::place::Place;
 use protocols::shares::Shares;
 use protocols::{below, bit, bits, equal, local, multiply, open, reshare, store};
 
-// What the miners make alone, each from its own shares, unless the command has a joint protocol. (A match, as in `play`, and every command
+// What the miners make alone, each from its own shares, unless the command has a joint protocol. (A match, as in `play`, with every command
 // named: one that is added is not forgotten.)
 #[inline(always)]
 pub(crate) fn make_alone(code: Code, b: u32, g: Given) -> Option<Shares>
@@ -24,18 +24,18 @@ pub(crate) fn make_alone(code: Code, b: u32, g: Given) -> Option<Shares>
     let u = g.u;
     let v = g.v;
     match code {
-        Code::Store => None,
         Code::Add => Some(local::sum(u, v)),
         Code::Subtract => Some(local::difference(u, v)),
         Code::AddConstant => Some(local::shifted(u, b)),
         Code::TimesConstant => Some(local::multiple(u, b)),
-        Code::Multiply => None,
-        Code::Reshare => None,
-        Code::Bits => None,
-        Code::Bit => None,
-        Code::Equal => None,
-        Code::Open => None,
-        Code::Below => None,
+        Code::Store
+        | Code::Multiply
+        | Code::Reshare
+        | Code::Bits
+        | Code::Bit
+        | Code::Equal
+        | Code::Open
+        | Code::Below => None,
     }
 }
 

@@ -155,7 +155,8 @@ fn round(round: Round, held: Held, q: Shares, t: Shares, lists: &mut Lists) -> H
     carried(round, p, s, q, t, held.base)
 }
 
-// The dealing and the rounds, where every tape and list has enough.
+// The dealing and the rounds, where every tape and list has enough. (As `folds` of Equal, but each deals, draws and computes something
+// else; what they share is in `masked.rt` and `list.rt`.)
 pub(crate) fn rounds(
     u: Shares,
     place: Place,

@@ -1,4 +1,4 @@
-// Draws by every miner at once.
+// Draws by every miner at once. (Each draw is taken apart by `let .. else`, here and in the protocols: see `Place::draw`.)
 ghost use Rattle.std.specs.Prelude.{◌≡◌};
 ghost use Rattle.protocols.specs.Draws.{draw_each, draw_pairs};
 ghost use Rattle.protocols.specs.Lent.{tapes_of};

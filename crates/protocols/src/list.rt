@@ -19,7 +19,8 @@ pub(crate) fn put(list: &mut [u32], at: usize, words: &[u32])
 }
 
 impl Lists<'_> {
-    // Words of each miner to the next, in order: into list 1 from `first` on, into lists 2 and 3 from `at` on.
+    // Words of each miner to the next, in order: into list 1 from `first` on, into lists 2 and 3 from `at` on. (By index, since it is that
+    // of three lists.)
     #[inline(always)]
     pub(crate) fn pass(&mut self, first: usize, at: usize, words: &[Shares])
         requires { let n = length words.now in Room (first + n) (at + n) (at + n) (lists_of self.old) }

@@ -6,7 +6,7 @@ ghost use Rattle.protocols.specs.Printed as printed;
 
 use std::fmt;
 
-// Who draws: the provider, or a miner.
+// Who draws: the provider, or a miner. (The controller receives and draws nothing: so this is not who receives.)
 #[derive(Clone, Copy, PartialEq, Eq)]
 pub enum Party {
     Provider,

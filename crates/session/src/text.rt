@@ -131,6 +131,7 @@ impl<'a> Text<'a> {
         self.put_line(b" at", &[command as u64]);
     }
 
+    // A number, as in `put_stopped`.
     #[tactic(auto, unfolding(crate::specs::Text::refused_line))]
     pub(crate) fn put_refused(&mut self, number: u32)
         requires { Room self.old 29 }
@@ -144,6 +145,5 @@ impl<'a> Text<'a> {
 fn sum(words: &[u32; 3]) -> u32
     ensures { result ≡ sum_of (modulus 5) (shares (slice_index words.now 0) (slice_index words.now 1) (slice_index words.now 2)) }
 {
-    let [one, two, three] = *words;
-    open::total(Shares { one, two, three })
+    open::total(Shares::from(*words))
 }

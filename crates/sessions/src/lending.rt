@@ -23,7 +23,7 @@ pub(crate) const WHOLE: Lending = Lending {
     words: WORDS,
 };
 
-// The front of a list, or all of it.
+// The front of a list, or all of it. (That of `vectors` cuts tapes that are only read.)
 fn front(list: &mut [u32], count: usize) -> &mut [u32] {
     let end = count.min(list.len());
     &mut list[..end]

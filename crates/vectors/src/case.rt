@@ -70,43 +70,32 @@ fn operands(code: Code, generator: &mut Generator) -> Given {
 // Counts drawn already, mostly not 0: the words before the place must not be used.
 fn place(generator: &mut Generator) -> Place {
     let [handles, inputs]: [usize; 2] = generator.words().map(|word| (word % 100) as usize);
-    let [provider, one, two, three]: [usize; 4] = generator.words().map(|word| (word % 4) as usize);
-    let drawn = Drawn {
-        provider,
-        one,
-        two,
-        three,
-    };
-    let [one, two, three, controller]: [usize; 4] = generator
+    let [provider, drawn1, drawn2, drawn3]: [usize; 4] = generator
+        .words()
+        .map(|word| (word % 4) as usize);
+    let [received1, received2, received3, controller]: [usize; 4] = generator
         .words()
         .map(|word| (word % 1000) as usize);
-    Place {
-        handles,
-        inputs,
-        drawn,
-        received: Received {
-            one,
-            two,
-            three,
-            controller,
-        },
-    }
+    Place::from([
+        handles, inputs, provider, drawn1, drawn2, drawn3, received1, received2, received3,
+        controller,
+    ])
 }
 
 // What is lent of each tape: from one word too few to six too many, where the protocol draws from the tape at all.
 fn cut(code: Code, drawn: Drawn, generator: &mut Generator) -> Drawn {
     let need = row::of(code).drawn;
-    let lent = |party, spare: u32| {
-        let beside = drawn.of(party).saturating_add((spare % 8) as usize);
-        short::enough(beside, need.of(party), 0 < need.of(party))
+    let [provider, one, two, three]: [usize; 4] = generator.words().map(|word| (word % 8) as usize);
+    let spare = Drawn {
+        provider,
+        one,
+        two,
+        three,
     };
-    let [provider, one, two, three]: [u32; 4] = generator.words();
-    Drawn {
-        provider: lent(Party::Provider, provider),
-        one: lent(Party::One, one),
-        two: lent(Party::Two, two),
-        three: lent(Party::Three, three),
-    }
+    short::each_tape(|party| {
+        let beside = drawn.of(party).saturating_add(spare.of(party));
+        short::enough(beside, need.of(party), 0 < need.of(party))
+    })
 }
 
 // The next case of a protocol, with tapes that are cut and whole lists.

@@ -10,7 +10,7 @@ use protocols::place::{Place, Received};
 use protocols::shares::Shares;
 use std::fmt;
 
-// Whose list it is.
+// Whose list it is. (Not who draws: the controller does not, and the provider has no list.)
 #[derive(Clone, Copy, PartialEq, Eq)]
 pub enum Receiver {
     One,
@@ -81,7 +81,7 @@ pub(crate) fn received(list: &[u32; 32]) -> usize {
         .count()
 }
 
-// The first words of a tape, or all of it.
+// The first words of a tape, or all of it. (That of `sessions` cuts lists that are written to.)
 fn front(tape: &[u32], count: usize) -> &[u32] {
     tape.get(..count).unwrap_or(tape)
 }

@@ -7,6 +7,7 @@ use machine::given::Given;
 use std::io;
 use std::io::Write;
 
+// As the separate writing names them. (No `Display`: `Code` is another crate's.)
 pub(crate) fn name(code: Code) -> &'static str {
     match code {
         Code::Store => "store",

@@ -20,17 +20,23 @@ pub(crate) fn enough(beside: usize, need: usize, is_short: bool) -> usize {
         .saturating_sub(usize::from(is_short))
 }
 
+// So many words of each tape.
+pub(crate) fn each_tape<F: Fn(Party) -> usize>(words: F) -> Drawn
+    requires { F.IsAlwaysCallable words }
+{
+    Drawn {
+        provider: words(Party::Provider),
+        one: words(Party::One),
+        two: words(Party::Two),
+        three: words(Party::Three),
+    }
+}
+
 // Enough of each tape beside the words drawn already, but for the one that is a word short.
 pub(crate) fn cut(code: Code, short: Option<Party>) -> Drawn {
     let need = row::of(code).drawn;
     let drawn = place().drawn;
-    let lent = |party| enough(drawn.of(party), need.of(party), short == Some(party));
-    Drawn {
-        provider: lent(Party::Provider),
-        one: lent(Party::One),
-        two: lent(Party::Two),
-        three: lent(Party::Three),
-    }
+    each_tape(|party| enough(drawn.of(party), need.of(party), short == Some(party)))
 }
 
 fn line(out: &mut impl Write, tape: &str, case: Case, generator: &mut Generator) -> io::Result<()> {
