@@ -1,8 +1,8 @@
 -- What a command is and does, in the order of document 01, and what is claimed of it.
 pub mod Table
 pub mod Lent
-pub mod Verdict
 pub mod Refusal
+pub mod Verdict
 pub mod Steps
 pub mod Command
 pub mod Accept

@@ -27,7 +27,8 @@ pub struct Lists<'a> {
 }
 
 impl Tapes<'_> {
-    // Whether the miners' tapes have so many words left at the place.
+    // Whether the miners' tapes have so many words left at the place. (Bits, Equal and Below begin with this and `have_room`, each by its own
+    // counts.)
     #[tactic(auto, using(crate::proofs::Laws::Draws::enough_miners))]
     #[inline(always)]
     pub(crate) fn have(&self, place: Place, one: usize, two: usize, three: usize) -> bool

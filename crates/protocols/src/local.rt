@@ -1,4 +1,4 @@
-// What each miner does on its own shares alone.
+// What each miner does on its own shares alone. (Two operands are two parameters, here and in the protocols: some take one.)
 ghost use Rattle.std.specs.Prelude.{◌≡◌};
 ghost use Rattle.protocols.specs.Word.{modulus};
 ghost use Rattle.protocols.specs.Shares.{operands};

@@ -10,7 +10,7 @@ use std::fmt::Display;
 use std::io;
 use std::io::Write;
 
-// What each list needs with so many words more, one word less in the short one.
+// What each list needs with so many words more, one word less in the short one. (As `each_tape` of `short.rt`, of another record.)
 fn room(code: Code, more: usize, short: Option<Receiver>) -> Received {
     let need = row::of(code).received;
     let room = |receiver: Receiver| {
