@@ -142,7 +142,9 @@ fn deal(u: Shares, words: &[u32; 3], q: Shares, t: Shares, lists: &mut Lists) ->
     begun(dealt, q, t)
 }
 
-// Round k: the masked shares and the masks of the next round sent on, and what the miners then hold.
+// Round k: the masked shares and the masks of the next round sent on, and what the miners then hold. (A call of its own: within the loop
+// its words find no registers.)
+#[inline(never)]
 fn round(round: Round, held: Held, q: Shares, t: Shares, lists: &mut Lists) -> Held
     requires { Room 22 25 25 (lists_of lists.old) }
     ensures same { Same lists.old lists.new }
