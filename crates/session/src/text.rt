@@ -1,7 +1,7 @@
 // The lines of text, put at the front of a lent buffer.
-ghost use Rattle.std.specs.Prelude.{◌≡◌, ◌+◌, ◌*◌, ◌≤◌, [], ◌∷◌, length, slice_index};
+ghost use Rattle.std.specs.Prelude.{◌≡◌, ◌+◌, ◌*◌, ◌≤◌, [], ◌∷◌, length};
 ghost use Rattle.protocols.specs.Word.{modulus};
-ghost use Rattle.protocols.specs.Shares.{shares, sum_of};
+ghost use Rattle.protocols.specs.Shares.{shares_of, sum_of};
 ghost use Rattle.machine.specs.Run.{commands_of, sums_in_threes};
 ghost use Rattle.session.specs.Text.{spaced, end_line, stopped_line, last_line, refused_line, lines_with};
 ghost use Rattle.session.specs.Text as spec;
@@ -143,7 +143,7 @@ impl<'a> Text<'a> {
 
 // The word that three shares add up to.
 fn sum(words: &[u32; 3]) -> u32
-    ensures { result ≡ sum_of (modulus 5) (shares (slice_index words.now 0) (slice_index words.now 1) (slice_index words.now 2)) }
+    ensures { result ≡ sum_of (modulus 5) (shares_of words.now) }
 {
     open::total(Shares::from(*words))
 }
