@@ -54,119 +54,73 @@ impl Buffers {
         }
     }
 
+    /// All lists, each as it is lent.
     #[inline(always)]
-    pub fn command(&mut self, side: Side, [code, a, b]: [u32; 3], place: Place) -> Answer {
+    pub fn lent(&mut self) -> Lent<'_> {
+        let [share1, share2, share3] = self.shares.each_mut().map(|list| (&mut list[..]).into());
+        let [provider, tape1, tape2, tape3] = self.tapes.each_ref().map(|list| (&list[..]).into());
+        let [one, two, three, controller] = self.received.each_mut().map(|list| (&mut list[..]).into());
+        Lent {
+            words: &mut self.words,
+            inputs: &self.inputs,
+            tapes: Tapes {
+                provider,
+                one: tape1,
+                two: tape2,
+                three: tape3,
+            },
+            tables: Tables {
+                share1,
+                share2,
+                share3,
+                kinds: (&mut self.kinds[..]).into(),
+            },
+            lists: Lists {
+                one,
+                two,
+                three,
+                controller,
+            },
+            text: &mut self.text,
+        }
+    }
+}
+
+/// Lists that are lent to many calls.
+pub struct Lent<'l> {
+    words: &'l mut [u32],
+    inputs: &'l [u32],
+    tapes: Tapes<'l>,
+    tables: Tables<'l>,
+    lists: Lists<'l>,
+    text: &'l mut [u8; TEXT],
+}
+
+impl Lent<'_> {
+    #[inline(always)]
+    pub fn command(&mut self, side: Side, command: [u32; 3], place: &Place) -> Answer {
+        let (tables, lists) = (&mut self.tables, &mut self.lists);
         match side {
-            Side::Engine => {
-                let (_, inputs, tapes, mut tables, mut lists, _) = self.parts();
-                engine::command([code, a, b], place, &mut tables, inputs, tapes, &mut lists)
-            }
-            Side::Twin => {
-                let (_, inputs, tapes, t, l, _) = self.parts();
-                twin::command(
-                    code,
-                    a,
-                    b,
-                    place,
-                    t.share1,
-                    t.share2,
-                    t.share3,
-                    t.kinds,
-                    inputs,
-                    tapes.provider,
-                    tapes.one,
-                    tapes.two,
-                    tapes.three,
-                    l.one,
-                    l.two,
-                    l.three,
-                    l.controller,
-                )
-            }
+            Side::Engine => engine::command(command, place, tables, self.inputs, &self.tapes, lists),
+            Side::Twin => twin::command(command, place, tables, self.inputs, &self.tapes, lists),
         }
     }
 
     #[inline(always)]
     pub fn session(&mut self, side: Side, file: &[u8]) -> SessionAnswer {
-        let (words, _, _, mut t, mut l, _) = self.parts();
+        let (tables, lists) = (&mut self.tables, &mut self.lists);
         match side {
-            Side::Engine => engine::session(file, words, &mut t, &mut l),
-            Side::Twin => twin::session(
-                file,
-                words,
-                t.share1,
-                t.share2,
-                t.share3,
-                t.kinds,
-                l.one,
-                l.two,
-                l.three,
-                l.controller,
-            ),
+            Side::Engine => engine::session(file, self.words, tables, lists),
+            Side::Twin => twin::session(file, self.words, tables, lists),
         }
     }
 
     #[inline(always)]
     pub fn pool(&mut self, side: Side, file: &[u8]) -> usize {
-        let (words, _, _, mut t, mut l, text) = self.parts();
+        let (tables, lists) = (&mut self.tables, &mut self.lists);
         match side {
-            Side::Engine => engine::pool(file, words, &mut t, &mut l, text),
-            Side::Twin => twin::pool(
-                file,
-                words,
-                t.share1,
-                t.share2,
-                t.share3,
-                t.kinds,
-                l.one,
-                l.two,
-                l.three,
-                l.controller,
-                text,
-            ),
+            Side::Engine => engine::pool(file, self.words, tables, lists, self.text),
+            Side::Twin => twin::pool(file, self.words, tables, lists, self.text),
         }
-    }
-
-    /// Words, inputs, tapes, tables, received lists and the text's room, each as it is lent.
-    #[inline(always)]
-    fn parts(
-        &mut self,
-    ) -> (
-        &mut [u32],
-        &[u32],
-        Tapes<'_>,
-        Tables<'_>,
-        Lists<'_>,
-        &mut [u8; TEXT],
-    ) {
-        let [share1, share2, share3] = &mut self.shares;
-        let [provider, one, two, three] = &self.tapes;
-        let tapes = Tapes {
-            provider,
-            one,
-            two,
-            three,
-        };
-        let tables = Tables {
-            share1,
-            share2,
-            share3,
-            kinds: &mut self.kinds,
-        };
-        let [one, two, three, controller] = &mut self.received;
-        let lists = Lists {
-            one,
-            two,
-            three,
-            controller,
-        };
-        (
-            &mut self.words,
-            &self.inputs,
-            tapes,
-            tables,
-            lists,
-            &mut self.text,
-        )
     }
 }

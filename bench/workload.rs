@@ -46,24 +46,24 @@ impl Workload {
         }
     }
 
-    /// Inlined with the side known, so that both sides are called directly.
+    /// Inlined with the side known, so that both sides are called directly. The lists are lent once for all calls.
     #[inline(always)]
     fn repeat(&mut self, calls: usize, side: Side) {
-        let buffers = &mut self.buffers;
+        let mut lent = self.buffers.lent();
         match &self.call {
             Call::Command(command, place) => {
                 for _ in 0..calls {
-                    black_box(&buffers.command(side, *command, *place));
+                    black_box(&lent.command(side, *command, place));
                 }
             }
             Call::Session(file) => {
                 for _ in 0..calls {
-                    black_box(&buffers.session(side, file));
+                    black_box(&lent.session(side, file));
                 }
             }
             Call::Pool(file) => {
                 for _ in 0..calls {
-                    black_box(&buffers.pool(side, file));
+                    black_box(&lent.pool(side, file));
                 }
             }
         }

@@ -35,6 +35,30 @@ class Answer(Structure):
     _fields_ = [("number", c_uint32), ("place", Place), ("opened", c_uint32)]
 
 
+class List(Structure):
+    """A lent list: a pointer, then the length."""
+
+    _fields_ = [("words", POINTER(c_uint32)), ("length", c_size_t)]
+
+
+class Tables(Structure):
+    """The share tables of miners 1 to 3 and the kind list."""
+
+    _fields_ = [("share1", List), ("share2", List), ("share3", List), ("kinds", List)]
+
+
+class Tapes(Structure):
+    """The tapes of the provider and miners 1 to 3."""
+
+    _fields_ = [("provider", List), ("tape1", List), ("tape2", List), ("tape3", List)]
+
+
+class Lists(Structure):
+    """The lists of words received by miners 1 to 3 and the controller."""
+
+    _fields_ = [("received1", List), ("received2", List), ("received3", List), ("controller", List)]
+
+
 def load():
     """The library as a shared object, linked from the archive where that is newer."""
     if not ARCHIVE.exists():
@@ -43,10 +67,11 @@ def load():
         whole = ["-Wl,--whole-archive", str(ARCHIVE), "-Wl,--no-whole-archive"]
         subprocess.run(["cc", "-shared", *whole, "-o", str(SHARED)], check=True)
     library = CDLL(str(SHARED))
+    place, tables, tapes, lists = map(POINTER, (Place, Tables, Tapes, Lists))
     words = [POINTER(c_uint32), c_size_t]
-    library.dinglefork_command.argtypes = [c_uint32] * 3 + [Place] + words * 13
+    library.dinglefork_command.argtypes = [c_uint32] * 3 + [place, tables, *words, tapes, lists]
     library.dinglefork_command.restype = Answer
-    library.dinglefork_pool.argtypes = [c_char_p, c_size_t] + words * 9 + [POINTER(c_char)]
+    library.dinglefork_pool.argtypes = [c_char_p, c_size_t, *words, tables, lists, POINTER(c_char)]
     library.dinglefork_pool.restype = c_size_t
     return library
 
@@ -55,34 +80,39 @@ def words_of(values):
     return (c_uint32 * len(values))(*values)
 
 
-def zeros(count, length):
-    return [(c_uint32 * length)() for _ in range(count)]
+def zeros(length):
+    return (c_uint32 * length)()
 
 
-def passed(lists):
-    """Each list as a call takes it: a pointer, then the length."""
-    return [part for words in lists for part in (words, len(words))]
+def lent(words):
+    return List(words, len(words))
+
+
+def room():
+    """Tables and received lists that suffice for every session."""
+    return Tables(*(lent(zeros(ENTRIES)) for _ in range(4))), Lists(*(lent(zeros(RECEIVED)) for _ in range(4)))
 
 
 def run_commands(library, commands, inputs, tapes):
     """Prints what each command answers, and the words that miner 1 received."""
-    tables, received, place = zeros(4, ENTRIES), zeros(4, RECEIVED), Place()
-    lent = passed(tables + [words_of(inputs)] + [words_of(tape) for tape in tapes] + received)
+    # Filled once for all commands.
+    tables, lists = room()
+    tapes = Tapes(*(lent(words_of(tape)) for tape in tapes))
+    inputs, place = words_of(inputs), Place()
     for command in commands:
-        answer = library.dinglefork_command(*command, place, *lent)
+        answer = library.dinglefork_command(*command, place, tables, inputs, len(inputs), tapes, lists)
         if answer.number != 0:
             print(*command, "refused", answer.number)
             return
         place = answer.place
         print(*command, *(("opened", answer.opened) if command[0] == 11 else ("handle", place.handles)))
-    print("miner 1 received", *received[0][: place.received[0]])
+    print("miner 1 received", *lists.received1.words[: place.received[0]])
 
 
 def pool(library, file):
     """The text of a session file, as the program `pool` prints it."""
-    lent = zeros(1, WORDS) + zeros(4, ENTRIES) + zeros(4, RECEIVED)
     out = (c_char * TEXT)()
-    length = library.dinglefork_pool(file, len(file), *passed(lent), out)
+    length = library.dinglefork_pool(file, len(file), zeros(WORDS), WORDS, *room(), out)
     return out[:length].decode()
 
 

@@ -5,13 +5,17 @@
  * miners, the data provider and the controller on buffers that the caller lends. Nothing is kept
  * between calls and nothing is allocated; calls on different buffers may run at the same time.
  *
- * What a caller owes to each call:
+ * What a caller owes to each call, of the pointers passed and of those in the structs behind them:
  * - a pointer has as many elements behind it as the length that follows it says;
- * - no pointer is NULL, not even one whose length is 0, and each is aligned for its element;
+ * - no pointer is NULL, not even one whose length is 0, and each is aligned for what is behind it;
  * - a buffer that is written overlaps with no other lent buffer. Those that are only read may
- *   overlap with each other.
+ *   overlap with each other. The structs are lent buffers too: those of tapes and the place record
+ *   are only read, those of tables and lists count as written.
  * Beyond that every length and every content is allowed: the call answers it or refuses it by
  * number. Lengths count elements, not bytes.
+ *
+ * A call leaves the structs as they were, with the same pointers and lengths, so that a caller can
+ * fill them once and make many calls.
  */
 #ifndef DINGLEFORK_H
 #define DINGLEFORK_H
@@ -126,37 +130,63 @@ typedef struct dinglefork_session_answer {
     uint32_t number; /* 0, or the number of the refusal: 1 to 13 */
 } dinglefork_session_answer;
 
+/* A lent list, which may be written. */
+typedef struct dinglefork_list {
+    uint32_t *words;
+    size_t length;
+} dinglefork_list;
+
+/* A lent list that is only read. */
+typedef struct dinglefork_tape {
+    const uint32_t *words;
+    size_t length;
+} dinglefork_tape;
+
+/* The miners' share tables and the kind list: an entry for each handle, the first for handle 1. */
+typedef struct dinglefork_tables {
+    dinglefork_list share1;
+    dinglefork_list share2;
+    dinglefork_list share3;
+    dinglefork_list kinds;
+} dinglefork_tables;
+
+/* The tapes of random words of the provider and miners 1 to 3. */
+typedef struct dinglefork_tapes {
+    dinglefork_tape provider;
+    dinglefork_tape tape1;
+    dinglefork_tape tape2;
+    dinglefork_tape tape3;
+} dinglefork_tapes;
+
+/* The lists of words received by miners 1 to 3 and the controller. */
+typedef struct dinglefork_lists {
+    dinglefork_list received1;
+    dinglefork_list received2;
+    dinglefork_list received3;
+    dinglefork_list controller;
+} dinglefork_lists;
+
 /*
  * One command.
  *
- * Lent: the place record before it, the share tables of miners 1 to 3 and the kind list, all four
- * of one length (an entry for each handle, the first for handle 1), the inputs, the tapes of the
- * provider and miners 1 to 3, and the lists of words received by miners 1 to 3 and the controller,
- * each of any length.
+ * Lent: the place record before it; the share tables and the kind list, all four of one length; the
+ * inputs, the tapes and the received lists, each of any length.
  *
- * Written: an accepted command writes the new handle's entry, at place.handles of the share tables
+ * Written: an accepted command writes the new handle's entry, at place->handles of the share tables
  * and the kind list, and its received words, from the place's count on in each list; no other
- * word. An open writes no entry. A refused command writes nothing. Inputs and tapes are only read.
+ * word. An open writes no entry. A refused command writes nothing. The place record, inputs and
+ * tapes are only read, and the structs are left as they were.
  *
  * Answered: 0 or the number of the refusal; the place record, moved on, or untouched by a refusal;
  * the opened word. The answered place is the one to pass with the next command.
  */
 dinglefork_answer dinglefork_command(
     uint32_t code, uint32_t a, uint32_t b,
-    dinglefork_place place,
-    uint32_t *share1, size_t share1_length,
-    uint32_t *share2, size_t share2_length,
-    uint32_t *share3, size_t share3_length,
-    uint32_t *kinds, size_t kinds_length,
+    const dinglefork_place *place,
+    dinglefork_tables *tables,
     const uint32_t *inputs, size_t inputs_length,
-    const uint32_t *provider, size_t provider_length,
-    const uint32_t *tape1, size_t tape1_length,
-    const uint32_t *tape2, size_t tape2_length,
-    const uint32_t *tape3, size_t tape3_length,
-    uint32_t *received1, size_t received1_length,
-    uint32_t *received2, size_t received2_length,
-    uint32_t *received3, size_t received3_length,
-    uint32_t *controller, size_t controller_length);
+    const dinglefork_tapes *tapes,
+    dinglefork_lists *lists);
 
 /*
  * The commands of a session file, from an empty place record up to the first refused one.
@@ -167,7 +197,7 @@ dinglefork_answer dinglefork_command(
  *
  * Written: on numbers 1 to 4 nothing. Otherwise the file's words, at the front of `words`, and what
  * each accepted command writes; what the accepted ones before a refusal wrote remains. No other
- * word. The file is only read.
+ * word. The file is only read, and the structs are left as they were.
  *
  * Answered: the commands done, the place record after them (all zero on numbers 1 to 4), and 0 or
  * the number of the refusal.
@@ -175,14 +205,8 @@ dinglefork_answer dinglefork_command(
 dinglefork_session_answer dinglefork_session(
     const uint8_t *file, size_t file_length,
     uint32_t *words, size_t words_length,
-    uint32_t *share1, size_t share1_length,
-    uint32_t *share2, size_t share2_length,
-    uint32_t *share3, size_t share3_length,
-    uint32_t *kinds, size_t kinds_length,
-    uint32_t *received1, size_t received1_length,
-    uint32_t *received2, size_t received2_length,
-    uint32_t *received3, size_t received3_length,
-    uint32_t *controller, size_t controller_length);
+    dinglefork_tables *tables,
+    dinglefork_lists *lists);
 
 /*
  * The same, with the text that the program `pool` prints: a line `open H W` for each accepted open,
@@ -192,21 +216,16 @@ dinglefork_session_answer dinglefork_session(
  *
  * Written: the text at the front of `out`, without a zero byte after it, and no other byte there;
  * in the lists what dinglefork_session writes. A file over DINGLEFORK_BYTES bytes gives the text
- * `refused 3`, even where 1 or 2 applies, and nothing else is written.
+ * `refused 3`, even where 1 or 2 applies, and nothing else is written. The structs are left as they
+ * were.
  *
  * Answered: the text's length in bytes, at most DINGLEFORK_TEXT.
  */
 size_t dinglefork_pool(
     const uint8_t *file, size_t file_length,
     uint32_t *words, size_t words_length,
-    uint32_t *share1, size_t share1_length,
-    uint32_t *share2, size_t share2_length,
-    uint32_t *share3, size_t share3_length,
-    uint32_t *kinds, size_t kinds_length,
-    uint32_t *received1, size_t received1_length,
-    uint32_t *received2, size_t received2_length,
-    uint32_t *received3, size_t received3_length,
-    uint32_t *controller, size_t controller_length,
+    dinglefork_tables *tables,
+    dinglefork_lists *lists,
     uint8_t *out);
 
 #ifdef __cplusplus

@@ -2,8 +2,13 @@
 //!
 //! Three calls: [`command`], [`session`] and [`pool`]. Each plays the three miners, the data
 //! provider and the controller on lists that the caller lends. Every length and every content is
-//! allowed: a call answers it or refuses it by number. `dinglefork.h` beside this file lists the
-//! codes and the numbers.
+//! allowed: a call answers it or refuses it by number. [`Tables`], [`Tapes`] and [`Lists`] go to C
+//! as they are and stay as they were, so that they can be made once for many calls. `dinglefork.h`
+//! beside this file lists the codes and the numbers.
+
+use std::marker::PhantomData;
+use std::ops::{Deref, DerefMut};
+use std::slice;
 
 /// Words that a session must be lent for its file.
 pub const WORDS: usize = 7_692;
@@ -68,29 +73,102 @@ pub struct SessionAnswer {
     pub number: u32,
 }
 
+/// A lent list, which may be written: the slice that it is made from, as C takes it.
+#[repr(C)]
+pub struct List<'a> {
+    words: *mut u32,
+    length: usize,
+    lent: PhantomData<&'a mut [u32]>,
+}
+
+// SAFETY: a list is the slice that it is made from, which may be sent and shared.
+unsafe impl Send for List<'_> {}
+unsafe impl Sync for List<'_> {}
+
+impl<'a> From<&'a mut [u32]> for List<'a> {
+    fn from(words: &'a mut [u32]) -> List<'a> {
+        List {
+            words: words.as_mut_ptr(),
+            length: words.len(),
+            lent: PhantomData,
+        }
+    }
+}
+
+impl Deref for List<'_> {
+    type Target = [u32];
+
+    fn deref(&self) -> &[u32] {
+        // SAFETY: the pointer and length of a slice that this list alone has, borrowed with it.
+        unsafe { slice::from_raw_parts(self.words, self.length) }
+    }
+}
+
+impl DerefMut for List<'_> {
+    fn deref_mut(&mut self) -> &mut [u32] {
+        // SAFETY: as in `deref`.
+        unsafe { slice::from_raw_parts_mut(self.words, self.length) }
+    }
+}
+
+/// A lent list that is only read: the slice that it is made from, as C takes it.
+#[repr(C)]
+#[derive(Clone, Copy)]
+pub struct Tape<'a> {
+    words: *const u32,
+    length: usize,
+    lent: PhantomData<&'a [u32]>,
+}
+
+// SAFETY: as for `List`.
+unsafe impl Send for Tape<'_> {}
+unsafe impl Sync for Tape<'_> {}
+
+impl<'a> From<&'a [u32]> for Tape<'a> {
+    fn from(words: &'a [u32]) -> Tape<'a> {
+        Tape {
+            words: words.as_ptr(),
+            length: words.len(),
+            lent: PhantomData,
+        }
+    }
+}
+
+impl Deref for Tape<'_> {
+    type Target = [u32];
+
+    fn deref(&self) -> &[u32] {
+        // SAFETY: the pointer and length of a slice that is lent to be read.
+        unsafe { slice::from_raw_parts(self.words, self.length) }
+    }
+}
+
 /// The miners' share tables and the kind list: an entry for each handle, the first for handle 1.
+#[repr(C)]
 pub struct Tables<'a> {
-    pub share1: &'a mut [u32],
-    pub share2: &'a mut [u32],
-    pub share3: &'a mut [u32],
-    pub kinds: &'a mut [u32],
+    pub share1: List<'a>,
+    pub share2: List<'a>,
+    pub share3: List<'a>,
+    pub kinds: List<'a>,
 }
 
 /// The tapes of random words, which are only read.
+#[repr(C)]
 #[derive(Clone, Copy)]
 pub struct Tapes<'a> {
-    pub provider: &'a [u32],
-    pub one: &'a [u32],
-    pub two: &'a [u32],
-    pub three: &'a [u32],
+    pub provider: Tape<'a>,
+    pub one: Tape<'a>,
+    pub two: Tape<'a>,
+    pub three: Tape<'a>,
 }
 
 /// The lists of words received by miners 1 to 3 and the controller.
+#[repr(C)]
 pub struct Lists<'a> {
-    pub one: &'a mut [u32],
-    pub two: &'a mut [u32],
-    pub three: &'a mut [u32],
-    pub controller: &'a mut [u32],
+    pub one: List<'a>,
+    pub two: List<'a>,
+    pub three: List<'a>,
+    pub controller: List<'a>,
 }
 
 /// One command: three words. An accepted one writes the new handle's entry and its received words
@@ -98,30 +176,20 @@ pub struct Lists<'a> {
 #[rustfmt::skip] // A pointer and its length on one line.
 pub fn command(
     [code, a, b]: [u32; 3],
-    place: Place,
+    place: &Place,
     tables: &mut Tables,
     inputs: &[u32],
-    tapes: Tapes,
+    tapes: &Tapes,
     lists: &mut Lists,
 ) -> Answer {
-    // SAFETY: each pointer is a slice's, with that slice's length; slices are aligned and never
-    // null, and those that are written are borrowed for this call alone.
+    // SAFETY: each pointer, in the structs too, is a slice's, with that slice's length, or a
+    // struct's; these are aligned and never null, and those that are written are borrowed for this
+    // call alone. The structs are left with the same pointers and lengths.
     unsafe {
         dinglefork_command(
-            code, a, b, place,
-            tables.share1.as_mut_ptr(), tables.share1.len(),
-            tables.share2.as_mut_ptr(), tables.share2.len(),
-            tables.share3.as_mut_ptr(), tables.share3.len(),
-            tables.kinds.as_mut_ptr(), tables.kinds.len(),
+            code, a, b, place, tables,
             inputs.as_ptr(), inputs.len(),
-            tapes.provider.as_ptr(), tapes.provider.len(),
-            tapes.one.as_ptr(), tapes.one.len(),
-            tapes.two.as_ptr(), tapes.two.len(),
-            tapes.three.as_ptr(), tapes.three.len(),
-            lists.one.as_mut_ptr(), lists.one.len(),
-            lists.two.as_mut_ptr(), lists.two.len(),
-            lists.three.as_mut_ptr(), lists.three.len(),
-            lists.controller.as_mut_ptr(), lists.controller.len(),
+            tapes, lists,
         )
     }
 }
@@ -141,14 +209,7 @@ pub fn session(
         dinglefork_session(
             file.as_ptr(), file.len(),
             words.as_mut_ptr(), words.len(),
-            tables.share1.as_mut_ptr(), tables.share1.len(),
-            tables.share2.as_mut_ptr(), tables.share2.len(),
-            tables.share3.as_mut_ptr(), tables.share3.len(),
-            tables.kinds.as_mut_ptr(), tables.kinds.len(),
-            lists.one.as_mut_ptr(), lists.one.len(),
-            lists.two.as_mut_ptr(), lists.two.len(),
-            lists.three.as_mut_ptr(), lists.three.len(),
-            lists.controller.as_mut_ptr(), lists.controller.len(),
+            tables, lists,
         )
     }
 }
@@ -168,63 +229,31 @@ pub fn pool(
         dinglefork_pool(
             file.as_ptr(), file.len(),
             words.as_mut_ptr(), words.len(),
-            tables.share1.as_mut_ptr(), tables.share1.len(),
-            tables.share2.as_mut_ptr(), tables.share2.len(),
-            tables.share3.as_mut_ptr(), tables.share3.len(),
-            tables.kinds.as_mut_ptr(), tables.kinds.len(),
-            lists.one.as_mut_ptr(), lists.one.len(),
-            lists.two.as_mut_ptr(), lists.two.len(),
-            lists.three.as_mut_ptr(), lists.three.len(),
-            lists.controller.as_mut_ptr(), lists.controller.len(),
+            tables, lists,
             out.as_mut_ptr(),
         )
     }
 }
 
-// The C interface: every slice is a pointer and then its length in elements.
+// The C interface: every slice is a pointer and then its length in elements, as every `List` is.
 #[rustfmt::skip]
 extern "C" {
     fn dinglefork_command(
-        code: u32, a: u32, b: u32, place: Place,
-        share1: *mut u32, share1_length: usize,
-        share2: *mut u32, share2_length: usize,
-        share3: *mut u32, share3_length: usize,
-        kinds: *mut u32, kinds_length: usize,
+        code: u32, a: u32, b: u32, place: *const Place, tables: *mut Tables,
         inputs: *const u32, inputs_length: usize,
-        provider: *const u32, provider_length: usize,
-        tape1: *const u32, tape1_length: usize,
-        tape2: *const u32, tape2_length: usize,
-        tape3: *const u32, tape3_length: usize,
-        received1: *mut u32, received1_length: usize,
-        received2: *mut u32, received2_length: usize,
-        received3: *mut u32, received3_length: usize,
-        controller: *mut u32, controller_length: usize,
+        tapes: *const Tapes, lists: *mut Lists,
     ) -> Answer;
 
     fn dinglefork_session(
         file: *const u8, file_length: usize,
         words: *mut u32, words_length: usize,
-        share1: *mut u32, share1_length: usize,
-        share2: *mut u32, share2_length: usize,
-        share3: *mut u32, share3_length: usize,
-        kinds: *mut u32, kinds_length: usize,
-        received1: *mut u32, received1_length: usize,
-        received2: *mut u32, received2_length: usize,
-        received3: *mut u32, received3_length: usize,
-        controller: *mut u32, controller_length: usize,
+        tables: *mut Tables, lists: *mut Lists,
     ) -> SessionAnswer;
 
     fn dinglefork_pool(
         file: *const u8, file_length: usize,
         words: *mut u32, words_length: usize,
-        share1: *mut u32, share1_length: usize,
-        share2: *mut u32, share2_length: usize,
-        share3: *mut u32, share3_length: usize,
-        kinds: *mut u32, kinds_length: usize,
-        received1: *mut u32, received1_length: usize,
-        received2: *mut u32, received2_length: usize,
-        received3: *mut u32, received3_length: usize,
-        controller: *mut u32, controller_length: usize,
+        tables: *mut Tables, lists: *mut Lists,
         out: *mut u8,
     ) -> usize;
 }

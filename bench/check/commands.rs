@@ -18,12 +18,12 @@ pub fn check(seed: u64, commands: usize, numbers: &mut [usize; 14]) {
         if random.percent(10) {
             let (lists, place) = unsound(&mut random, &buffers, place);
             let (answer, _) = both(&what, &lists, |lists, side| {
-                lists.command(side, command, place)
+                lists.lent().command(side, command, &place)
             });
             numbers[answer.number as usize] += 1;
         }
         let (answer, after) = both(&what, &buffers, |lists, side| {
-            lists.command(side, command, place)
+            lists.lent().command(side, command, &place)
         });
         numbers[answer.number as usize] += 1;
         (place, buffers) = (answer.place, after);

@@ -13,15 +13,15 @@ pub fn check(seed: u64, numbers: &mut [usize; 14]) {
     let mut random = Random::from_seed(seed);
     let file = generate::session_file(&mut random);
     let mut zeros = Buffers::lend(&POOL_LENGTHS, |length| vec![0; length]);
-    let reached = zeros.session(Side::Twin, &file).place;
+    let reached = zeros.lent().session(Side::Twin, &file).place;
     let lengths = generate::lending::lengths(&mut random, place_of(reached));
     let mut lists = Buffers::lend(&lengths, |length| random.words(length));
     lists.text.fill(random.word() as u8);
 
     let what = format!("the session call, session {seed}");
-    let (answer, _) = both(&what, &lists, |lists, side| lists.session(side, &file));
+    let (answer, _) = both(&what, &lists, |lists, side| lists.lent().session(side, &file));
     let what = format!("the pool call, session {seed}");
-    both(&what, &lists, |lists, side| lists.pool(side, &file));
+    both(&what, &lists, |lists, side| lists.lent().pool(side, &file));
     numbers[answer.number as usize] += 1;
 }
 

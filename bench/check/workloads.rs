@@ -19,15 +19,15 @@ fn is_refused(workload: &Workload) -> bool {
     let (name, lists) = (&workload.name, &workload.buffers);
     match &workload.call {
         Call::Command(command, place) => {
-            let call = |lists: &mut Buffers, side| lists.command(side, *command, *place);
+            let call = |lists: &mut Buffers, side| lists.lent().command(side, *command, place);
             both(name, lists, call).0.number != 0
         }
         Call::Session(file) => {
-            let call = |lists: &mut Buffers, side| lists.session(side, file);
+            let call = |lists: &mut Buffers, side| lists.lent().session(side, file);
             both(name, lists, call).0.number != 0
         }
         Call::Pool(file) => {
-            let call = |lists: &mut Buffers, side| lists.pool(side, file);
+            let call = |lists: &mut Buffers, side| lists.lent().pool(side, file);
             let (length, after) = both(name, lists, call);
             let text = String::from_utf8_lossy(&after.text[..length]);
             text.contains("refused")

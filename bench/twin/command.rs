@@ -1,43 +1,30 @@
 //! The command call.
 
-use super::lent::{Lent, Tables};
+use super::lent::{Lent, Table};
 use super::step::step;
-use crate::engine::{Answer, Place};
+use crate::engine::{Answer, Lists, Place, Tables, Tapes};
 
 /// One command on lent lists. Not inlined, so that it is called as the engine is.
 #[inline(never)]
 pub fn command(
-    code: u32,
-    a: u32,
-    b: u32,
-    mut place: Place,
-    share1: &mut [u32],
-    share2: &mut [u32],
-    share3: &mut [u32],
-    kinds: &mut [u32],
+    command: [u32; 3],
+    place: &Place,
+    tables: &mut Tables,
     inputs: &[u32],
-    provider: &[u32],
-    tape1: &[u32],
-    tape2: &[u32],
-    tape3: &[u32],
-    received1: &mut [u32],
-    received2: &mut [u32],
-    received3: &mut [u32],
-    controller: &mut [u32],
+    tapes: &Tapes,
+    lists: &mut Lists,
 ) -> Answer {
+    let mut place = *place;
     let mut lent = Lent {
-        tables: Tables {
-            shares: [share1, share2, share3],
-            kinds,
-        },
+        tables: Table::of(tables),
         inputs,
-        provider,
-        tapes: [tape1, tape2, tape3],
-        received: [received1, received2, received3],
-        controller,
+        provider: &tapes.provider,
+        tapes: [&tapes.one, &tapes.two, &tapes.three],
+        received: [&mut lists.one, &mut lists.two, &mut lists.three],
+        controller: &mut lists.controller,
     };
     let sound = lent.check(&place);
-    let done = sound.and_then(|()| step([code, a, b], &mut place, &mut lent));
+    let done = sound.and_then(|()| step(command, &mut place, &mut lent));
     Answer {
         number: done.err().unwrap_or(0),
         place,

@@ -1,6 +1,6 @@
 //! The lent lists, and the parts of them that one command draws from and writes to.
 
-use crate::engine::{Drawn, Place, Received};
+use crate::engine::{Drawn, Place, Received, Tables};
 
 /// "Kind 1 is a ring value", "Kind 2 is a bit word".
 pub const RING: u32 = 1;
@@ -11,7 +11,7 @@ pub type Checked<T> = Result<T, u32>;
 
 /// All lists of a command.
 pub struct Lent<'l> {
-    pub tables: Tables<'l>,
+    pub tables: Table<'l>,
     pub inputs: &'l [u32],
     pub provider: &'l [u32],
     pub tapes: [&'l [u32]; 3],
@@ -20,7 +20,7 @@ pub struct Lent<'l> {
 }
 
 /// Three share tables and the kind list.
-pub struct Tables<'l> {
+pub struct Table<'l> {
     pub shares: [&'l mut [u32]; 3],
     pub kinds: &'l mut [u32],
 }
@@ -105,7 +105,15 @@ impl<'l, const ONE: usize, const OTHERS: usize> Room<'l, ONE, OTHERS> {
     }
 }
 
-impl Tables<'_> {
+impl<'l> Table<'l> {
+    #[inline(always)]
+    pub fn of(tables: &'l mut Tables) -> Table<'l> {
+        Table {
+            shares: [&mut tables.share1, &mut tables.share2, &mut tables.share3],
+            kinds: &mut tables.kinds,
+        }
+    }
+
     /// Whether the tables and the kind list are equally long.
     #[inline(always)]
     pub fn agree(&self) -> bool {

@@ -1,9 +1,9 @@
 //! The session call.
 
-use super::lent::{Lent, Tables};
+use super::lent::{Lent, Table};
 use super::sheet::{bounds, decode};
 use super::step::step;
-use crate::engine::{Place, SessionAnswer};
+use crate::engine::{Lists, Place, SessionAnswer, Tables};
 
 /// The commands of a file from an empty place, up to the first that is refused. Not inlined, so
 /// that it is called as the engine is.
@@ -11,19 +11,10 @@ use crate::engine::{Place, SessionAnswer};
 pub fn session(
     file: &[u8],
     words: &mut [u32],
-    share1: &mut [u32],
-    share2: &mut [u32],
-    share3: &mut [u32],
-    kinds: &mut [u32],
-    received1: &mut [u32],
-    received2: &mut [u32],
-    received3: &mut [u32],
-    controller: &mut [u32],
+    tables: &mut Tables,
+    lists: &mut Lists,
 ) -> SessionAnswer {
-    let tables = Tables {
-        shares: [share1, share2, share3],
-        kinds,
-    };
+    let tables = Table::of(tables);
     let bounds = match bounds(file, tables.agree(), words.len()) {
         Ok(bounds) => bounds,
         Err(number) => return answer(0, Place::default(), number),
@@ -35,8 +26,8 @@ pub fn session(
         inputs: body(1),
         provider: body(2),
         tapes: [body(3), body(4), body(5)],
-        received: [received1, received2, received3],
-        controller,
+        received: [&mut lists.one, &mut lists.two, &mut lists.three],
+        controller: &mut lists.controller,
     };
     run(body(0), &mut lent)
 }

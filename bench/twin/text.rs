@@ -1,7 +1,7 @@
 //! The text that `pool` prints.
 
 use super::session;
-use crate::engine::{SessionAnswer, TEXT};
+use crate::engine::{Lists, SessionAnswer, Tables, TEXT};
 
 /// "Over 30,768 bytes, the longest legal file, it prints `refused 3`."
 const LONGEST_FILE: usize = 30_768;
@@ -12,14 +12,8 @@ const OPEN: u32 = 11;
 pub fn pool(
     file: &[u8],
     words: &mut [u32],
-    share1: &mut [u32],
-    share2: &mut [u32],
-    share3: &mut [u32],
-    kinds: &mut [u32],
-    received1: &mut [u32],
-    received2: &mut [u32],
-    received3: &mut [u32],
-    controller: &mut [u32],
+    tables: &mut Tables,
+    lists: &mut Lists,
     out: &mut [u8; TEXT],
 ) -> usize {
     let mut text = Text { out, length: 0 };
@@ -27,10 +21,8 @@ pub fn pool(
         text.line(b"refused", &[3]);
         return text.length;
     }
-    let answer = session(
-        file, words, share1, share2, share3, kinds, received1, received2, received3, controller,
-    );
-    text.report(&answer, words, controller);
+    let answer = session(file, words, tables, lists);
+    text.report(&answer, words, &lists.controller);
     text.length
 }
 

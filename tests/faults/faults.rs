@@ -1,5 +1,5 @@
-//! Puts arbitrary input through the library's three calls, with every lent buffer alone between
-//! inaccessible pages, and compares answers and lists with the reference.
+//! Puts arbitrary input through the library's three calls, with every lent buffer and struct alone
+//! between inaccessible pages, and compares answers and lists with the reference.
 //!
 //! `faults CASES [FIRST]`: cases are told by their numbers, from FIRST (0 if not given) on; a
 //! number that differs or crashes can be run again alone. Each case is run with every buffer's end

@@ -146,3 +146,27 @@ impl<T: Copy> Pages<T> {
         unsafe { std::slice::from_raw_parts_mut(self.base.add(self.start).cast(), self.length) }
     }
 }
+
+/// For structs of pointers, lengths and counts.
+impl Pages<usize> {
+    /// Makes this struct the buffer, writable.
+    pub fn put_struct<S>(&mut self, content: S, flush: Flush) -> &mut S {
+        const { assert!(size_of::<S>() % size_of::<usize>() == 0) };
+        const { assert!(align_of::<S>() == align_of::<usize>()) };
+        self.put(&vec![0; size_of::<S>() / size_of::<usize>()], flush);
+        let at: *mut S = self.as_mut_slice().as_mut_ptr().cast();
+        // SAFETY: room for the struct, aligned for it; it is borrowed with these pages.
+        unsafe {
+            at.write(content);
+            &mut *at
+        }
+    }
+
+    /// The same, and a write to it ends the program.
+    pub fn put_struct_for_reading<S>(&mut self, content: S, flush: Flush) -> &S {
+        let at: *const S = self.put_struct(content, flush);
+        self.forbid_writing();
+        // SAFETY: as above.
+        unsafe { &*at }
+    }
+}

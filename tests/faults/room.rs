@@ -1,4 +1,4 @@
-//! Pages for every buffer of the three calls, and the calls on them.
+//! Pages for every buffer and struct of the three calls, and the calls on them.
 
 use crate::command::Command;
 use crate::dinglefork::{self, Answer, SessionAnswer, Tapes, TEXT};
@@ -18,6 +18,14 @@ pub struct Room {
     /// Provider and miners 1 to 3.
     tapes: [Pages<u32>; 4],
     out: Pages<u8>,
+    structs: Structs,
+}
+
+struct Structs {
+    place: Pages<usize>,
+    tables: Pages<usize>,
+    tapes: Pages<usize>,
+    lists: Pages<usize>,
 }
 
 impl Room {
@@ -29,14 +37,22 @@ impl Room {
             inputs: list(),
             tapes: [(); 4].map(|_| list()),
             out: Pages::up_to(TEXT),
+            structs: Structs {
+                place: Pages::up_to(10),
+                tables: Pages::up_to(8),
+                tapes: Pages::up_to(8),
+                lists: Pages::up_to(8),
+            },
         }
     }
 
     pub fn session(&mut self, file: &[u8], lent: &Lent, flush: Flush) -> SessionAnswer {
         self.put_written(lent, flush);
         put_for_reading(&mut self.file, file, flush);
-        let (words, mut tables, mut lists) = lists::lend(slices(&mut self.written));
-        dinglefork::session(self.file.as_slice(), words, &mut tables, &mut lists)
+        let (words, tables, lists) = lists::lend(slices(&mut self.written));
+        let tables = self.structs.tables.put_struct(tables, flush);
+        let lists = self.structs.lists.put_struct(lists, flush);
+        dinglefork::session(self.file.as_slice(), words, tables, lists)
     }
 
     /// The text of `pool`; Err if the rest of its room, filled with a byte first, is touched.
@@ -47,8 +63,10 @@ impl Room {
         self.out.put(&[FILLER; TEXT], flush);
         let out = self.out.as_mut_slice().first_chunk_mut();
         let out = out.expect("the text's room");
-        let (words, mut tables, mut lists) = lists::lend(slices(&mut self.written));
-        let length = dinglefork::pool(self.file.as_slice(), words, &mut tables, &mut lists, out);
+        let (words, tables, lists) = lists::lend(slices(&mut self.written));
+        let tables = self.structs.tables.put_struct(tables, flush);
+        let lists = self.structs.lists.put_struct(lists, flush);
+        let length = dinglefork::pool(self.file.as_slice(), words, tables, lists, out);
         if length > TEXT {
             return Err(format!("the text's length is {length}, over {TEXT}"));
         }
@@ -65,7 +83,8 @@ impl Room {
         for (pages, tape) in self.tapes.iter_mut().zip(&command.tapes) {
             put_for_reading(pages, tape, flush);
         }
-        let [provider, one, two, three] = self.tapes.each_ref().map(Pages::as_slice);
+        let tape = |pages| Pages::as_slice(pages).into();
+        let [provider, one, two, three] = self.tapes.each_ref().map(tape);
         let tapes = Tapes {
             provider,
             one,
@@ -73,9 +92,13 @@ impl Room {
             three,
         };
         let place = answers::place(command.place);
-        let (_, mut tables, mut lists) = lists::lend(slices(&mut self.written));
+        let (_, tables, lists) = lists::lend(slices(&mut self.written));
+        let place = self.structs.place.put_struct_for_reading(place, flush);
+        let tables = self.structs.tables.put_struct(tables, flush);
+        let tapes = self.structs.tapes.put_struct_for_reading(tapes, flush);
+        let lists = self.structs.lists.put_struct(lists, flush);
         let inputs = self.inputs.as_slice();
-        dinglefork::command(command.words, place, &mut tables, inputs, tapes, &mut lists)
+        dinglefork::command(command.words, place, tables, inputs, tapes, lists)
     }
 
     fn put_written(&mut self, lent: &Lent, flush: Flush) {
@@ -84,13 +107,26 @@ impl Room {
         }
     }
 
-    /// The first word in which a list, or what stands about it, is not as expected.
+    /// The first word in which a list, or what stands about it, is not as expected; or that a
+    /// struct of tables or lists is not as it was lent.
     pub fn compare(&self, expected: &Lent) -> Result<(), String> {
+        if !self.structs_are_as_lent() {
+            return Err("a struct, or what stands about it, is overwritten".to_string());
+        }
         for (i, want) in lists::of(expected).into_iter().enumerate() {
             let pages = &self.written[i];
             lists::compare(i, pages.as_slice(), want, pages.rest_is_untouched())?;
         }
         Ok(())
+    }
+
+    /// All written lists but the words are in the structs, in the same order.
+    fn structs_are_as_lent(&self) -> bool {
+        let structs = [&self.structs.tables, &self.structs.lists];
+        let got = structs.into_iter().flat_map(|pages| pages.as_slice());
+        let lists = self.written[1..].iter().map(Pages::as_slice);
+        let want = lists.flat_map(|list| [list.as_ptr() as usize, list.len()]);
+        got.copied().eq(want) && structs.into_iter().all(Pages::rest_is_untouched)
     }
 }
 

@@ -29,3 +29,29 @@ static_assert(sizeof(dinglefork_session_answer) == 96, "session answer");
 IS_AT(dinglefork_session_answer, done, 0, 8);
 IS_AT(dinglefork_session_answer, place, 8, 80);
 IS_AT(dinglefork_session_answer, number, 88, 4);
+
+static_assert(sizeof(dinglefork_list) == 16, "list");
+IS_AT(dinglefork_list, words, 0, 8);
+IS_AT(dinglefork_list, length, 8, 8);
+
+static_assert(sizeof(dinglefork_tape) == 16, "tape");
+IS_AT(dinglefork_tape, words, 0, 8);
+IS_AT(dinglefork_tape, length, 8, 8);
+
+static_assert(sizeof(dinglefork_tables) == 64, "tables");
+IS_AT(dinglefork_tables, share1, 0, 16);
+IS_AT(dinglefork_tables, share2, 16, 16);
+IS_AT(dinglefork_tables, share3, 32, 16);
+IS_AT(dinglefork_tables, kinds, 48, 16);
+
+static_assert(sizeof(dinglefork_tapes) == 64, "tapes");
+IS_AT(dinglefork_tapes, provider, 0, 16);
+IS_AT(dinglefork_tapes, tape1, 16, 16);
+IS_AT(dinglefork_tapes, tape2, 32, 16);
+IS_AT(dinglefork_tapes, tape3, 48, 16);
+
+static_assert(sizeof(dinglefork_lists) == 64, "lists");
+IS_AT(dinglefork_lists, received1, 0, 16);
+IS_AT(dinglefork_lists, received2, 16, 16);
+IS_AT(dinglefork_lists, received3, 32, 16);
+IS_AT(dinglefork_lists, controller, 48, 16);

@@ -91,43 +91,69 @@ static const lengths all = {DINGLEFORK_WORDS, DINGLEFORK_ENTRIES, 2, 3, DINGLEFO
 static const dinglefork_place empty = {0, 0, {0, 0, 0, 0}, {0, 0, 0, 0}};
 static const dinglefork_place end = {3, 2, {4, 3, 3, 3}, {7, 7, 7, 3}};
 
+/* What a call is lent as structs. */
+typedef struct structs {
+    dinglefork_place place;
+    dinglefork_tables tables;
+    dinglefork_tapes tapes;
+    dinglefork_lists lists;
+} structs;
+
+static structs structs_of(dinglefork_place place, lengths lend) {
+    structs passed = {
+        place,
+        {
+            {lent.share1, lend.entries},
+            {lent.share2, lend.entries},
+            {lent.share3, lend.entries},
+            {lent.kinds, lend.entries}
+        },
+        {
+            {provider, LENGTH_OF(provider)},
+            {tape1, LENGTH_OF(tape1)},
+            {tape2, lend.tape2},
+            {tape3, LENGTH_OF(tape3)}
+        },
+        {
+            {lent.received1, LENGTH_OF(lent.received1)},
+            {lent.received2, LENGTH_OF(lent.received2)},
+            {lent.received3, LENGTH_OF(lent.received3)},
+            {lent.controller, lend.controller}
+        }
+    };
+    return passed;
+}
+
+/* The structs have no padding. */
+static int same_structs(structs got, structs want) {
+    return memcmp(&got, &want, sizeof want) == 0;
+}
+
 static dinglefork_answer command(
     uint32_t code, uint32_t a, uint32_t b, dinglefork_place place, lengths lend
 ) {
-    return dinglefork_command(
-        code, a, b, place,
-        lent.share1, lend.entries, lent.share2, lend.entries, lent.share3, lend.entries,
-        lent.kinds, lend.entries,
-        inputs, lend.inputs,
-        provider, LENGTH_OF(provider),
-        tape1, LENGTH_OF(tape1), tape2, lend.tape2, tape3, LENGTH_OF(tape3),
-        lent.received1, LENGTH_OF(lent.received1),
-        lent.received2, LENGTH_OF(lent.received2),
-        lent.received3, LENGTH_OF(lent.received3),
-        lent.controller, lend.controller);
+    structs passed = structs_of(place, lend);
+    dinglefork_answer answer = dinglefork_command(
+        code, a, b, &passed.place, &passed.tables, inputs, lend.inputs, &passed.tapes,
+        &passed.lists);
+    CHECK(same_structs(passed, structs_of(place, lend)));
+    return answer;
 }
 
 static dinglefork_session_answer session(const uint8_t *file, size_t length, lengths lend) {
-    return dinglefork_session(
-        file, length, lent.words, lend.words,
-        lent.share1, lend.entries, lent.share2, lend.entries, lent.share3, lend.entries,
-        lent.kinds, lend.entries,
-        lent.received1, LENGTH_OF(lent.received1),
-        lent.received2, LENGTH_OF(lent.received2),
-        lent.received3, LENGTH_OF(lent.received3),
-        lent.controller, lend.controller);
+    structs passed = structs_of(empty, lend);
+    dinglefork_session_answer answer = dinglefork_session(
+        file, length, lent.words, lend.words, &passed.tables, &passed.lists);
+    CHECK(same_structs(passed, structs_of(empty, lend)));
+    return answer;
 }
 
 static size_t pool(const uint8_t *file, size_t length, lengths lend) {
-    return dinglefork_pool(
-        file, length, lent.words, lend.words,
-        lent.share1, lend.entries, lent.share2, lend.entries, lent.share3, lend.entries,
-        lent.kinds, lend.entries,
-        lent.received1, LENGTH_OF(lent.received1),
-        lent.received2, LENGTH_OF(lent.received2),
-        lent.received3, LENGTH_OF(lent.received3),
-        lent.controller, lend.controller,
-        lent.out);
+    structs passed = structs_of(empty, lend);
+    size_t text = dinglefork_pool(
+        file, length, lent.words, lend.words, &passed.tables, &passed.lists, lent.out);
+    CHECK(same_structs(passed, structs_of(empty, lend)));
+    return text;
 }
 
 /* Words as bytes, lowest first; answers their number. */
@@ -271,9 +297,11 @@ static void refused_files(void) {
 
 static void empty_command(uint32_t number, uint32_t code, uint32_t a) {
     uint32_t none[1] = {FILLER};
+    dinglefork_tables tables = {{none, 0}, {none, 0}, {none, 0}, {none, 0}};
+    dinglefork_tapes tapes = {{none, 0}, {none, 0}, {none, 0}, {none, 0}};
+    dinglefork_lists lists = {{none, 0}, {none, 0}, {none, 0}, {none, 0}};
     dinglefork_answer answer = dinglefork_command(
-        code, a, 0, empty, none, 0, none, 0, none, 0, none, 0,
-        none, 0, none, 0, none, 0, none, 0, none, 0, none, 0, none, 0, none, 0, none, 0);
+        code, a, 0, &empty, &tables, none, 0, &tapes, &lists);
     CHECK(answer.number == number && answer.opened == 0);
     CHECK(same_places(answer.place, empty));
     CHECK(none[0] == FILLER);

@@ -4,7 +4,8 @@
 #[path = "../../include/dinglefork.rs"]
 mod dinglefork;
 
-use dinglefork::{Answer, Drawn, Lists, Place, Received, SessionAnswer, Tables, Tapes};
+use dinglefork::{Answer, Drawn, Place, Received, SessionAnswer};
+use dinglefork::{List, Lists, Tables, Tape, Tapes};
 use dinglefork::{BYTES, ENTRIES, RECEIVED, TEXT, WORDS};
 use std::mem::{offset_of, size_of};
 
@@ -13,12 +14,8 @@ const FILLER: u32 = 0xa5a5_a5a5;
 
 const COMMANDS: [[u32; 3]; 4] = [[1, 0, 0], [1, 0, 0], [6, 1, 2], [11, 3, 0]];
 const INPUTS: [u32; 2] = [7, 5];
-const TAPES: Tapes = Tapes {
-    provider: &[1, 2, 3, 4],
-    one: &[10, 20, 70],
-    two: &[30, 40, 80],
-    three: &[50, 60, 90],
-};
+/// Provider and miners 1 to 3.
+const TAPES: [&[u32]; 4] = [&[1, 2, 3, 4], &[10, 20, 70], &[30, 40, 80], &[50, 60, 90]];
 
 /// Where the worked session ends.
 const END: Place = Place {
@@ -62,8 +59,8 @@ impl Buffers {
     }
 
     fn lend(&mut self) -> (&mut [u32], Tables<'_>, Lists<'_>) {
-        let [share1, share2, share3, kinds] = self.tables.each_mut().map(Vec::as_mut_slice);
-        let [one, two, three, controller] = self.lists.each_mut().map(Vec::as_mut_slice);
+        let [share1, share2, share3, kinds] = lend_lists(&mut self.tables);
+        let [one, two, three, controller] = lend_lists(&mut self.lists);
         let tables = Tables {
             share1,
             share2,
@@ -79,9 +76,22 @@ impl Buffers {
         (&mut self.words, tables, lists)
     }
 
-    fn command(&mut self, command: [u32; 3], place: Place, inputs: &[u32], tapes: Tapes) -> Answer {
+    fn command(
+        &mut self,
+        command: [u32; 3],
+        place: Place,
+        inputs: &[u32],
+        tapes: [&[u32]; 4],
+    ) -> Answer {
         let (_, mut tables, mut lists) = self.lend();
-        dinglefork::command(command, place, &mut tables, inputs, tapes, &mut lists)
+        let [provider, one, two, three] = tapes.map(Tape::from);
+        let tapes = Tapes {
+            provider,
+            one,
+            two,
+            three,
+        };
+        dinglefork::command(command, &place, &mut tables, inputs, &tapes, &mut lists)
     }
 
     fn session(&mut self, file: &[u8]) -> SessionAnswer {
@@ -98,8 +108,13 @@ impl Buffers {
     }
 }
 
+fn lend_lists(lists: &mut [Vec<u32>; 4]) -> [List<'_>; 4] {
+    lists.each_mut().map(|list| list.as_mut_slice().into())
+}
+
 fn main() {
     layouts();
+    lists_as_slices();
     worked_by_commands();
     worked_by_session();
     refused_commands();
@@ -118,6 +133,25 @@ fn layouts() {
     assert_eq!(size_of::<SessionAnswer>(), 96);
     assert_eq!(offset_of!(SessionAnswer, place), 8);
     assert_eq!(offset_of!(SessionAnswer, number), 88);
+    assert_eq!(size_of::<Tables>(), 64);
+    assert_eq!(offset_of!(Tables, share1), 0);
+    assert_eq!(offset_of!(Tables, kinds), 48);
+    assert_eq!(size_of::<Tapes>(), 64);
+    assert_eq!(offset_of!(Tapes, provider), 0);
+    assert_eq!(offset_of!(Tapes, three), 48);
+    assert_eq!(size_of::<Lists>(), 64);
+    assert_eq!(offset_of!(Lists, one), 0);
+    assert_eq!(offset_of!(Lists, controller), 48);
+}
+
+/// A lent list is read and written as the slice that it is made from.
+fn lists_as_slices() {
+    let mut words = [1, 2, 3];
+    let mut list = List::from(&mut words[..]);
+    list[1] = 5;
+    assert_eq!(list[..], [1, 5, 3]);
+    assert_eq!(words, [1, 5, 3]);
+    assert_eq!(Tape::from(&words[..])[..], words);
 }
 
 // ---- the worked session
@@ -125,12 +159,7 @@ fn layouts() {
 /// Its words: six starts and counts, then the bodies.
 fn worked_words() -> Vec<u32> {
     let commands = COMMANDS.concat();
-    let Tapes {
-        provider,
-        one,
-        two,
-        three,
-    } = TAPES;
+    let [provider, one, two, three] = TAPES;
     let bodies = [&commands, &INPUTS[..], provider, one, two, three];
     let mut words = Vec::new();
     let mut start = 12;
@@ -199,7 +228,7 @@ fn worked_by_session() {
 // ---- refusals
 
 /// The command, on two filled handles, is refused with this number and changes nothing.
-fn refuses(number: u32, command: [u32; 3], inputs: &[u32], tapes: Tapes, buffers: &Buffers) {
+fn refuses(number: u32, command: [u32; 3], inputs: &[u32], tapes: [&[u32]; 4], buffers: &Buffers) {
     let place = Place {
         handles: 2,
         ..Place::default()
@@ -221,8 +250,8 @@ fn refused_commands() {
     refuses(8, [11, 2, 0], &INPUTS, TAPES, &lent);
     refuses(9, [9, 2, 32], &INPUTS, TAPES, &lent);
     refuses(11, [1, 0, 0], &[], TAPES, &lent);
-    let tapes = Tapes { two: &[], ..TAPES };
-    refuses(12, [7, 1, 0], &INPUTS, tapes, &lent);
+    let [provider, one, _, three] = TAPES;
+    refuses(12, [7, 1, 0], &INPUTS, [provider, one, &[], three], &lent);
     let mut full = lent.clone();
     full.tables.iter_mut().for_each(|table| table.truncate(2));
     refuses(10, [1, 0, 0], &INPUTS, TAPES, &full);
@@ -261,12 +290,7 @@ fn refused_files() {
 
 fn empty_lists() {
     let mut lent = Buffers::new(0, 0, 0);
-    let tapes = Tapes {
-        provider: &[],
-        one: &[],
-        two: &[],
-        three: &[],
-    };
+    let tapes: [&[u32]; 4] = [&[]; 4];
     let store = lent.command([1, 0, 0], Place::default(), &[], tapes);
     assert_eq!((store.number, store.place), (10, Place::default()));
     let open = lent.command([11, 1, 0], Place::default(), &[], tapes);

@@ -38,16 +38,16 @@ pub fn of(lent: &Lent) -> [&Vec<u32>; COUNT] {
 pub fn lend(lists: [&mut [u32]; COUNT]) -> (&mut [u32], Tables<'_>, Lists<'_>) {
     let [words, share1, share2, share3, kinds, one, two, three, controller] = lists;
     let tables = Tables {
-        share1,
-        share2,
-        share3,
-        kinds,
+        share1: share1.into(),
+        share2: share2.into(),
+        share3: share3.into(),
+        kinds: kinds.into(),
     };
     let lists = Lists {
-        one,
-        two,
-        three,
-        controller,
+        one: one.into(),
+        two: two.into(),
+        three: three.into(),
+        controller: controller.into(),
     };
     (words, tables, lists)
 }

@@ -11,7 +11,7 @@ use Rattle.protocols.specs.Local.{sum, difference, shifted, multiple}
 use Rattle.machine.specs.declared.answer.Answer.{Answer}
 use Rattle.machine.specs.declared.code.Code.{Code}
 use Rattle.machine.specs.declared.code.Code.TheVariants.{Store, Add, Subtract, AddConstant, TimesConstant, Multiply, Reshare, Bits, Bit, Equal, Open, Below}
-use Rattle.machine.specs.declared.given.Given.{Given}
+use Rattle.machine.specs.Given.{Given}
 use Rattle.machine.specs.declared.kind.Kind.{Kind}
 use Rattle.machine.specs.declared.row.Row.{Row}
 use Rattle.machine.specs.Table.{kind_number, row}

@@ -1,5 +1,5 @@
 // An accepted command, but for what its protocol still turns down: a spent tape, a full list.
-ghost use Rattle.std.specs.Prelude.{◌≡◌, ◌+◌, ◌<◌, ◌^◌, Ok};
+ghost use Rattle.std.specs.Prelude.{◌≡◌, ◌+◌, ◌<◌, ◌^◌, Ok, None};
 ghost use Rattle.protocols.specs.Place.{lists};
 ghost use Rattle.protocols.specs.Protocol.{perform};
 ghost use Rattle.protocols.specs.Outcome.{outcome, delivered, delivery};
@@ -9,6 +9,7 @@ ghost use Rattle.machine.specs.Lent.{tables_of, lent_of, SameTables, sizes};
 ghost use Rattle.machine.specs.Verdict.{supplied};
 ghost use Rattle.machine.specs.Verdict as verdict;
 ghost use Rattle.machine.specs.Steps.{protocol};
+ghost use Rattle.machine.specs.Given.{given_of};
 ghost use Rattle.machine.specs.Command.{answer, answer_of, decided};
 ghost use Rattle.machine.specs.Command as command;
 ghost use Rattle.machine.specs.Accept.{Begun, Fits, left, stored_of, append, one_more};
@@ -99,11 +100,10 @@ fn finish(
 
 // On lists that are lent one by one, as the parts of lent lists are. (The check's borrow rules do not cover a struct of such parts that is
 // made where they are cut.)
-#[inline(always)]
-fn play_on(
+fn play_on<const CALLER: usize>(
     code: Code,
     c: Command,
-    g: Given,
+    g: &Given,
     place: Place,
     tapes: &Tapes,
     one: &mut [u32],
@@ -111,7 +111,8 @@ fn play_on(
     three: &mut [u32],
     controller: &mut [u32],
 ) -> Result<Done, Shortage>
-    ensures { delivered (outcome place result) (lists one.new two.new three.new controller.new) ≡ delivery place (perform (protocol 5 code c.b) g place (tapes_of tapes.now)) (lists one.old two.old three.old controller.old) }
+    requires { spec.alone code c.b (given_of g.now) ≡ None }
+    ensures { delivered (outcome place result) (lists one.new two.new three.new controller.new) ≡ delivery place (perform (protocol 5 code c.b) (given_of g.now) place (tapes_of tapes.now)) (lists one.old two.old three.old controller.old) }
 {
     let mut lists = Lists {
         one,
@@ -119,12 +120,11 @@ fn play_on(
         three,
         controller,
     };
-    play::play(code, c.b, g, place, tapes, &mut lists)
+    play::play_jointly::<CALLER>(code, c.b, g, place, tapes, &mut lists)
 }
 
 // The protocol's words go into the unfilled part of each list, its shares become the new handle's.
-#[inline(always)]
-pub(crate) fn accept(
+pub(crate) fn accept<const CALLER: usize>(
     code: Code,
     c: Command,
     place: Place,
@@ -138,15 +138,15 @@ pub(crate) fn accept(
     ensures same_lists { Same lists.old lists.new }
     ensures decided { let l = lent_of tables.old inputs.now tapes.now lists.old in command.outcome (answer_of place result) (lent_of tables.new inputs.now tapes.now lists.new) ≡ decided 5 (supplied (row 5 code) place (sizes l) (verdict.Accepted code)) c place l }
 {
-    let g = tables.given(c, place, inputs);
-    if let Some(shares) = play::make_alone(code, c.b, g) {
+    let g = Given::of(c, place, tables, inputs);
+    if let Some(shares) = play::make_alone(code, c.b, &g) {
         return Ok(store_value(shares, place, tables));
     }
     let at = place.received;
-    let played = play_on(
+    let played = play_on::<CALLER>(
         code,
         c,
-        g,
+        &g,
         place,
         tapes,
         &mut lists.one[at.one..],

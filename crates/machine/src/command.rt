@@ -8,11 +8,15 @@ ghost use Rattle.machine.specs.Command as spec;
 use super::answer::Answer;
 use super::code::Command;
 use super::lent::Tables;
-use super::run;
+use super::refusal::Refusal;
+use super::step;
 use protocols::lent::{Lists, Tapes};
 use protocols::place::Place;
 
-// A run of one command.
+// Among the callers of a step.
+const SINGLE: usize = 0;
+
+// Number 4, or a step.
 pub fn command(
     c: Command,
     place: Place,
@@ -25,6 +29,9 @@ pub fn command(
     ensures same_lists { Same lists.old lists.new }
     ensures done { outcome result (lent_of tables.new inputs.now tapes.now lists.new) ≡ spec.command 5 c place (lent_of tables.old inputs.now tapes.now lists.old) }
 {
-    let run = run::run(&[c.code, c.a, c.b], place, tables, inputs, tapes, lists);
-    run.last
+    if !step::is_lent_soundly(place, tables, inputs, tapes, lists) {
+        return Answer::of(place, Err(Refusal::LentUnsoundly));
+    }
+    let answered = step::step::<SINGLE>(c, place, tables, inputs, tapes, lists);
+    Answer::of(place, answered)
 }

@@ -1,6 +1,7 @@
 // What a command works on.
 ghost use Rattle.std.specs.Prelude.{◌≡◌};
-ghost use Rattle.machine.specs.Lent.{tables, tables_of};
+ghost use Rattle.machine.specs.Lent.{tables_of};
+ghost use Rattle.machine.specs.Given.{given_of};
 ghost use Rattle.machine.specs.Command.{given};
 
 use super::code::Command;
@@ -9,39 +10,47 @@ use super::lent::Tables;
 use protocols::place::Place;
 use protocols::shares::Shares;
 
-// The next input, and the shares of the handles that a and b name.
-#[derive(Clone, Copy)]
-pub struct Given {
-    pub input: u32,
-    pub u: Shares,
-    pub v: Shares,
+// The next input, and the shares of the handles that a and b name: each is read where it is asked for, since most commands take less than
+// all of it.
+#[derive(Clone, Copy, Drop)]
+pub struct Given<'a, 'b, 'c> {
+    pub tables: &'a Tables<'b>,
+    pub inputs: &'c [u32],
+    pub used: usize,
+    pub a: u32,
+    pub b: u32,
 }
 
-impl Given {
-    // From tables that are only read: `Tables` would ask for ones that can be written.
-    pub fn of(
-        c: Command,
-        p: Place,
-        one: &[u32],
-        two: &[u32],
-        three: &[u32],
-        inputs: &[u32],
-    ) -> Given
-        ensures { result ≡ given (tables one.now two.now three.now) inputs.now p c }
+impl<'a, 'b, 'c> Given<'a, 'b, 'c> {
+    pub fn of(c: Command, p: Place, tables: &'a Tables<'b>, inputs: &'c [u32]) -> Given<'a, 'b, 'c>
+        ensures { given_of result ≡ given (tables_of tables.now) inputs.now p c }
     {
         Given {
-            input: lent::read(inputs, p.inputs),
-            u: lent::shares_at(one, two, three, c.a),
-            v: lent::shares_at(one, two, three, c.b),
+            tables,
+            inputs,
+            used: p.inputs,
+            a: c.a,
+            b: c.b,
         }
     }
-}
 
-impl Tables<'_> {
-    // What a command works on, of the lent tables.
-    pub(crate) fn given(&self, c: Command, p: Place, inputs: &[u32]) -> Given
-        ensures { result ≡ given (tables_of self.now) inputs.now p c }
+    pub fn input(&self) -> u32
+        ensures { result ≡ (given_of self.now).input }
     {
-        Given::of(c, p, self.one, self.two, self.three, inputs)
+        lent::read(self.inputs, self.used)
+    }
+
+    #[inline(always)]
+    pub fn u(&self) -> Shares
+        ensures { result ≡ (given_of self.now).u }
+    {
+        self.tables.shares(self.a)
+    }
+
+    #[inline(always)]
+    pub fn v(&self) -> Shares
+        ensures { result ≡ (given_of self.now).v }
+    {
+        self.tables.shares(self.b)
     }
 }

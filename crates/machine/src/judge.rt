@@ -139,6 +139,7 @@ fn unused(c: Command) -> Result<(), Refusal>
 }
 
 // By command: its fields. (A match and no table of closures, here and in `room`: each arm is proved to be its row's tests.)
+#[inline(always)]
 fn fields(code: Code, c: Command, filled: &[u32]) -> Result<(), Refusal>
     ensures { number_of result ≡ spec.fields 5 (row 5 code) c (holding filled.now) filled.now }
 {
@@ -188,6 +189,7 @@ fn room(code: Code, p: Place, entries: usize, inputs: usize) -> Result<(), Refus
 }
 
 // The lowest number from 6 to 11 that applies, if one does. (Entries and inputs are counts, and no lists: nothing here can see a share.)
+#[inline(always)]
 pub(crate) fn fields_and_room(
     code: Code,
     c: Command,

@@ -2,15 +2,16 @@
 ghost use Rattle.std.specs.Prelude.{◌≡◌, get_or};
 ghost use Rattle.protocols.specs.Place.{lists};
 ghost use Rattle.protocols.specs.Lent.{tapes_of};
-ghost use Rattle.machine.specs.Lent.{shares_at, tables, lent, sizes};
+ghost use Rattle.machine.specs.Lent.{shares_at, tables, tables_of, lent, sizes};
 ghost use Rattle.machine.specs.Lent as spec;
 
 use protocols::lent::Tapes;
 use protocols::place::{Drawn, Received};
 use protocols::shares::Shares;
 
-// Three share tables, and the kinds of their entries: four lists, as C lends them. (Tables, inputs, tapes and received lists are no one struct: of a struct within a
-// lent struct the check does not tell what its lists hold after a call, and sessions are lent tables and lists alone.)
+// Three share tables, and the kinds of their entries, as C lends them. (Tables, inputs, tapes and received lists are no one struct: of a
+// struct within a lent struct the check does not tell what its lists hold after a call, and sessions are lent tables and lists alone.)
+#[repr(C)]
 #[derive(Drop)]
 pub struct Tables<'a> {
     pub one: &'a mut [u32],
@@ -20,6 +21,14 @@ pub struct Tables<'a> {
 }
 
 impl Tables<'_> {
+    // The three shares of a handle.
+    #[inline(always)]
+    pub(crate) fn shares(&self, h: u32) -> Shares
+        ensures { result ≡ shares_at (tables_of self.now) h }
+    {
+        shares_at(self.one, self.two, self.three, h)
+    }
+
     // The kinds alone, for what may see no share.
     pub fn kinds(&self) -> &[u32]
         ensures { result.now ≡ self.now.kinds.now }
@@ -92,7 +101,7 @@ pub fn entry(list: &[u32], h: u32) -> u32
     read(list, (h as usize).saturating_sub(1))
 }
 
-// The three shares of a handle, from tables that are only read: `Tables` would ask for ones that can be written.
+// The three shares of a handle, from tables of any lengths.
 pub fn shares_at(one: &[u32], two: &[u32], three: &[u32], h: u32) -> Shares
     ensures { result ≡ shares_at (tables one.now two.now three.now) h }
 {

@@ -1,10 +1,12 @@
 // The protocol of each command.
-ghost use Rattle.std.specs.Prelude.{◌≡◌};
+ghost use Rattle.std.specs.Prelude.{◌≡◌, None};
 ghost use Rattle.protocols.specs.Place.{lists};
 ghost use Rattle.protocols.specs.Protocol.{perform};
 ghost use Rattle.protocols.specs.Outcome.{outcome, delivered, delivery};
 ghost use Rattle.protocols.specs.Lent.{tapes_of, lists_of, Same};
 ghost use Rattle.machine.specs.Steps.{protocol};
+ghost use Rattle.machine.specs.Given.{given_of};
+ghost use Rattle.machine.specs.declared.code.Code.TheVariants as variant;
 ghost use Rattle.machine.specs.Accept as spec;
 
 use super::code::Code;
@@ -18,16 +20,14 @@ use protocols::{below, bit, bits, equal, local, multiply, open, reshare, store};
 // What the miners make alone, each from its own shares, unless the command has a joint protocol. (A match, as in `play`, with every command
 // named: one that is added is not forgotten.)
 #[inline(always)]
-pub(crate) fn make_alone(code: Code, b: u32, g: Given) -> Option<Shares>
-    ensures { result ≡ spec.alone code b g }
+pub(crate) fn make_alone(code: Code, b: u32, g: &Given) -> Option<Shares>
+    ensures { result ≡ spec.alone code b (given_of g.now) }
 {
-    let u = g.u;
-    let v = g.v;
     match code {
-        Code::Add => Some(local::sum(u, v)),
-        Code::Subtract => Some(local::difference(u, v)),
-        Code::AddConstant => Some(local::shifted(u, b)),
-        Code::TimesConstant => Some(local::multiple(u, b)),
+        Code::Add => Some(local::sum(g.u(), g.v())),
+        Code::Subtract => Some(local::difference(g.u(), g.v())),
+        Code::AddConstant => Some(local::shifted(g.u(), b)),
+        Code::TimesConstant => Some(local::multiple(g.u(), b)),
         Code::Store
         | Code::Multiply
         | Code::Reshare
@@ -39,35 +39,81 @@ pub(crate) fn make_alone(code: Code, b: u32, g: Given) -> Option<Shares>
     }
 }
 
-// On the drawn words that follow the place; received words go to the front of each list. (A match and no table of closures: the protocols
-// take other operands each, and the compiler puts each into its arm.)
+// Bits, Equal and Below are calls of their own, to which their operands are lent in memory: these are laid out here, and not for every
+// command.
 #[inline(always)]
-#[tactic(auto, using(crate::proofs::Laws::Play::on_part, crate::proofs::Laws::Play::made_alone), unfolding(crate::specs::Steps::protocol))]
+#[tactic(auto, using(crate::proofs::Laws::Play::on_part), unfolding(crate::specs::Steps::protocol))]
+fn bits(g: &Given, p: Place, tapes: &Tapes, lists: &mut Lists) -> Result<Done, Shortage>
+    ensures same { Same lists.old lists.new }
+    ensures done { delivered (outcome p result) (lists_of lists.new) ≡ delivery p (perform (protocol 5 variant.Bits 0) (given_of g.now) p (tapes_of tapes.now)) (lists_of lists.old) }
+{
+    bits::bits(g.u(), p, tapes, lists)
+}
+
+#[inline(always)]
+#[tactic(auto, using(crate::proofs::Laws::Play::on_part), unfolding(crate::specs::Steps::protocol))]
+fn equal(g: &Given, p: Place, tapes: &Tapes, lists: &mut Lists) -> Result<Done, Shortage>
+    ensures same { Same lists.old lists.new }
+    ensures done { delivered (outcome p result) (lists_of lists.new) ≡ delivery p (perform (protocol 5 variant.Equal 0) (given_of g.now) p (tapes_of tapes.now)) (lists_of lists.old) }
+{
+    equal::equal(g.u(), g.v(), p, tapes, lists)
+}
+
+#[inline(always)]
+#[tactic(auto, using(crate::proofs::Laws::Play::on_part), unfolding(crate::specs::Steps::protocol))]
+fn below(g: &Given, p: Place, tapes: &Tapes, lists: &mut Lists) -> Result<Done, Shortage>
+    ensures same { Same lists.old lists.new }
+    ensures done { delivered (outcome p result) (lists_of lists.new) ≡ delivery p (perform (protocol 5 variant.Below 0) (given_of g.now) p (tapes_of tapes.now)) (lists_of lists.old) }
+{
+    below::below(g.u(), g.v(), p, tapes, lists)
+}
+
+// A joint protocol, on the drawn words that follow the place; received words go to the front of each list. (A match and no table of
+// closures: the protocols take other operands each, and the compiler puts each into its arm.)
+#[tactic(auto, using(crate::proofs::Laws::Play::on_part), unfolding(crate::specs::Steps::protocol))]
+pub(crate) fn play_jointly<const CALLER: usize>(
+    code: Code,
+    b: u32,
+    g: &Given,
+    p: Place,
+    tapes: &Tapes,
+    lists: &mut Lists,
+) -> Result<Done, Shortage>
+    requires { spec.alone code b (given_of g.now) ≡ None }
+    ensures same { Same lists.old lists.new }
+    ensures done { delivered (outcome p result) (lists_of lists.new) ≡ delivery p (perform (protocol 5 code b) (given_of g.now) p (tapes_of tapes.now)) (lists_of lists.old) }
+{
+    match code {
+        Code::Store => store::store(g.input(), p, tapes, lists),
+        Code::Multiply => multiply::multiply(g.u(), g.v(), p, tapes, lists),
+        Code::Reshare => reshare::reshare(g.u(), p, tapes, lists),
+        Code::Bits => bits(g, p, tapes, lists),
+        Code::Bit => bit::bit(g.u(), b, p, tapes, lists),
+        Code::Equal => equal(g, p, tapes, lists),
+        Code::Open => open::open(g.u(), p, tapes, lists),
+        Code::Below => below(g, p, tapes, lists),
+        _ => unreachable!(),
+    }
+}
+
+// Among the callers of a protocol: no step.
+const ALONE: usize = 2;
+
+// The protocol of any command.
+#[tactic(auto, using(crate::proofs::Laws::Play::made_alone), unfolding(crate::specs::Steps::protocol))]
 pub fn play(
     code: Code,
     b: u32,
-    g: Given,
+    g: &Given,
     p: Place,
     tapes: &Tapes,
     lists: &mut Lists,
 ) -> Result<Done, Shortage>
     ensures same { Same lists.old lists.new }
-    ensures done { delivered (outcome p result) (lists_of lists.new) ≡ delivery p (perform (protocol 5 code b) g p (tapes_of tapes.now)) (lists_of lists.old) }
+    ensures done { delivered (outcome p result) (lists_of lists.new) ≡ delivery p (perform (protocol 5 code b) (given_of g.now) p (tapes_of tapes.now)) (lists_of lists.old) }
 {
     if let Some(shares) = make_alone(code, b, g) {
         return Ok(Done { shares, place: p });
     }
-    let u = g.u;
-    let v = g.v;
-    match code {
-        Code::Store => store::store(g.input, p, tapes, lists),
-        Code::Multiply => multiply::multiply(u, v, p, tapes, lists),
-        Code::Reshare => reshare::reshare(u, p, tapes, lists),
-        Code::Bits => bits::bits(u, p, tapes, lists),
-        Code::Bit => bit::bit(u, b, p, tapes, lists),
-        Code::Equal => equal::equal(u, v, p, tapes, lists),
-        Code::Open => open::open(u, p, tapes, lists),
-        Code::Below => below::below(u, v, p, tapes, lists),
-        _ => unreachable!(),
-    }
+    play_jointly::<ALONE>(code, b, g, p, tapes, lists)
 }

@@ -78,6 +78,7 @@ fn alone(a: Use, b: Use) -> Row
 }
 
 // The line of each command, at 32 bits.
+#[inline(always)]
 pub fn of(code: Code) -> Row
     ensures { result ≡ spec.row 5 code }
 {

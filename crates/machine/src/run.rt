@@ -8,29 +8,14 @@ ghost use Rattle.machine.specs.Run.{commands_of, run_to_refusal, ended, end_of};
 
 use super::answer::{Accepted, Answer, Run};
 use super::code::Command;
-use super::lent::{Sizes, Tables};
+use super::lent::Tables;
 use super::refusal::Refusal;
-use super::{judge, step};
+use super::step;
 use protocols::lent::{Lists, Tapes};
 use protocols::place::Place;
 
-// The lengths of all that is lent.
-fn sizes(tables: &Tables, inputs: &[u32], tapes: &Tapes, lists: &Lists) -> Sizes
-    ensures { result ≡ sizes (lent_of tables.now inputs.now tapes.now lists.now) }
-{
-    Sizes::of(
-        tables.one,
-        tables.two,
-        tables.three,
-        tables.kinds,
-        inputs,
-        tapes,
-        lists.one,
-        lists.two,
-        lists.three,
-        lists.controller,
-    )
-}
+// Among the callers of a step.
+const RUN: usize = 1;
 
 // Number 4 refuses the first command, if there is one.
 fn refuse_first(words: usize, start: Place) -> Run
@@ -71,7 +56,7 @@ fn run_soundly(
     let (each, _) = commands.as_chunks::<3>();
     for (done, words) in each.iter().enumerate() {
         let [code, a, b] = *words;
-        let answered = step::step(
+        let answered = step::step::<RUN>(
             Command { code, a, b },
             last.place,
             tables,
@@ -108,8 +93,7 @@ pub fn run(
     ensures same_lists { Same lists.old lists.new }
     ensures done { ended result (lent_of tables.new inputs.now tapes.now lists.new) ≡ end_of start (run_to_refusal 5 (commands_of commands.now) start (lent_of tables.old inputs.now tapes.now lists.old)) }
 {
-    let sizes = sizes(tables, inputs, tapes, lists);
-    let unsound = !judge::is_sound(start, sizes, tables.kinds());
+    let unsound = !step::is_lent_soundly(start, tables, inputs, tapes, lists);
     if unsound {
         return refuse_first(commands.len(), start);
     }

@@ -1,4 +1,4 @@
-// One command where number 4 does not apply.
+// One command, where number 4 does not apply.
 ghost use Rattle.std.specs.Prelude.{◌≡◌, true};
 ghost use Rattle.protocols.specs.Lent.{Same};
 ghost use Rattle.machine.specs.Lent.{lent_of, SameTables, sizes};
@@ -8,15 +8,41 @@ ghost use Rattle.machine.specs.Command as spec;
 
 use super::answer::Accepted;
 use super::code::{Code, Command};
-use super::lent::Tables;
+use super::lent::{Sizes, Tables};
 use super::refusal::Refusal;
 use super::{accept, judge};
 use protocols::lent::{Lists, Tapes};
 use protocols::place::Place;
 
-// Judge, then compute and write; a refused command writes nothing.
+// Whether number 4 does not apply.
 #[inline(always)]
-pub(crate) fn step(
+pub(crate) fn is_lent_soundly(
+    place: Place,
+    tables: &Tables,
+    inputs: &[u32],
+    tapes: &Tapes,
+    lists: &Lists,
+) -> bool
+    ensures { result ≡ sound place (sizes (lent_of tables.now inputs.now tapes.now lists.now)) tables.now.kinds.now }
+{
+    let sizes = Sizes::of(
+        tables.one,
+        tables.two,
+        tables.three,
+        tables.kinds,
+        inputs,
+        tapes,
+        lists.one,
+        lists.two,
+        lists.three,
+        lists.controller,
+    );
+    judge::is_sound(place, sizes, tables.kinds())
+}
+
+// Judge, then compute and write; a refused command writes nothing. (CALLER tells the command call from the run: each has a step of its own,
+// which the compiler puts into it.)
+pub(crate) fn step<const CALLER: usize>(
     c: Command,
     place: Place,
     tables: &mut Tables,
@@ -38,5 +64,5 @@ pub(crate) fn step(
         inputs.len(),
         tables.kinds(),
     )?;
-    accept::accept(code, c, place, tables, inputs, tapes, lists)
+    accept::accept::<CALLER>(code, c, place, tables, inputs, tapes, lists)
 }

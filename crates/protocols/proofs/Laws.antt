@@ -7,6 +7,7 @@ pub mod Deliveries
 pub mod Draws
 pub mod Perform
 pub mod Lent
+pub mod Drawn
 pub mod Returns
 pub mod Source
 pub mod Shared

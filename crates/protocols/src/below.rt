@@ -1,6 +1,7 @@
 // Below.
-ghost use Rattle.std.specs.Prelude.{◌≡◌};
+ghost use Rattle.std.specs.Prelude.{◌≡◌, []};
 ghost use Rattle.protocols.specs.Shares.{operands};
+ghost use Rattle.protocols.specs.Place.{lists};
 ghost use Rattle.protocols.specs.Protocol.{perform};
 ghost use Rattle.protocols.specs.Outcome.{outcome, delivered, delivery};
 ghost use Rattle.protocols.specs.Lent.{tapes_of, lists_of, Same};
@@ -10,9 +11,43 @@ use super::lent::{Lists, Tapes};
 use super::outcome::{Done, Shortage};
 use super::place::Place;
 use super::shares::Shares;
-use super::{bit, bits, local};
+use super::{bit, bits, list, local};
+
+// Below, on lists that are lent one by one. (A call of its own, as Bits is.)
+#[inline(never)]
+fn below_on(
+    u: Shares,
+    v: Shares,
+    place: Place,
+    tapes: Tapes,
+    one: &mut [u32],
+    two: &mut [u32],
+    three: &mut [u32],
+) -> Result<Done, Shortage>
+    ensures { delivered (outcome place result) (lists one.new two.new three.new []) ≡ delivery place (perform (spec.below 5) (operands u v) place (tapes_of tapes.entry)) (lists one.old two.old three.old []) }
+{
+    let Some(((tape1, tape2, tape3), next)) = place.draw_block::<18, 12>(&tapes) else {
+        return Err(Shortage::TapeSpent);
+    };
+    if !list::have_room(one, two, three, 22, 28, 28) {
+        return Err(Shortage::ListFull);
+    }
+    let words = Tapes {
+        provider: &[],
+        one: &tape1[..15],
+        two: tape2,
+        three: tape3,
+    };
+    let word = bits::rounds_on(local::difference(u, v), words, one, two, three);
+    let bit_words = [tape1[15], tape1[16], tape1[17]];
+    Ok(Done {
+        shares: bit::convert(word, 31, &bit_words, &mut two[25..], &mut three[25..]),
+        place: next,
+    })
+}
 
 // The highest bit of u - v, 0 or 1.
+#[inline(always)]
 pub fn below(
     u: Shares,
     v: Shares,
@@ -23,19 +58,5 @@ pub fn below(
     ensures same { Same lists.old lists.new }
     ensures done { delivered (outcome place result) (lists_of lists.new) ≡ delivery place (perform (spec.below 5) (operands u v) place (tapes_of tapes.now)) (lists_of lists.old) }
 {
-    if !tapes.have(place, 18, 12, 12) {
-        return Err(Shortage::TapeSpent);
-    }
-    if !lists.have_room(22, 28, 28, 0) {
-        return Err(Shortage::ListFull);
-    }
-    let word = bits::rounds(local::difference(u, v), place, tapes, lists)?;
-    bit::convert(
-        word.shares,
-        31,
-        word.place,
-        tapes.one,
-        &mut lists.two[25..],
-        &mut lists.three[25..],
-    )
+    below_on(u, v, place, *tapes, lists.one, lists.two, lists.three)
 }

@@ -1,10 +1,10 @@
 // Bit.
-ghost use Rattle.std.specs.Prelude.{◌≡◌, []};
+ghost use Rattle.std.specs.Prelude.{◌≡◌, ◌≤◌, [], length};
 ghost use Rattle.protocols.specs.Word.{modulus, bit_at, low, sub, choose};
 ghost use Rattle.protocols.specs.Shares.{shares};
 ghost use Rattle.protocols.specs.Protocol.{perform};
 ghost use Rattle.protocols.specs.Place.{tapes, lists};
-ghost use Rattle.protocols.specs.Outcome.{outcome, delivered, delivery};
+ghost use Rattle.protocols.specs.Outcome.{outcome, delivered, delivery, fronts};
 ghost use Rattle.protocols.specs.Lent.{tapes_of, lists_of, Same};
 ghost use Rattle.protocols.specs.Bit as spec;
 
@@ -47,24 +47,21 @@ fn converted(s: u32, a: u32, b: u32) -> Shares
     }
 }
 
-// On miner 1's tape alone, for miners 2 and 3 alone. (It is lent those one by one, since Equal and Below lend it the tails of two lists.)
-#[tactic(auto, using(crate::proofs::Laws::Lent::bit_performs), unfolding(crate::specs::Bit::bit))]
+// The conversion, on the words drawn of miner 1's tape, and for miners 2 and 3 alone. (It is lent those one by one, since Equal and Below
+// lend it the tails of two lists.)
+#[tactic(auto, unfolding(crate::specs::Bit::bit))]
+#[inline(always)]
 pub(crate) fn convert(
     u: Shares,
     j: u32,
-    place: Place,
-    tape1: &[u32],
+    words: &[u32; 3],
     list2: &mut [u32],
     list3: &mut [u32],
-) -> Result<Done, Shortage>
-    ensures { delivered (outcome place result) (lists [] list2.new list3.new []) ≡ delivery place (perform (spec.bit (modulus 5) j) u place (tapes [] tape1.now [] [])) (lists [] list2.old list3.old []) }
+) -> Shares
+    requires { (3 ≤ length list2.old) × (3 ≤ length list3.old) }
+    ensures { let w = tapes [] words.now [] [] in (result ≡ (spec.bit (modulus 5) j).result u w) × (lists [] list2.new list3.new [] ≡ fronts (lists [] list2.old list3.old []) ((spec.bit (modulus 5) j).received u w)) }
 {
-    let Some((&[word_b, m12, word_b12], next)) = place.draw::<3>(Party::One, tape1) else {
-        return Err(Shortage::TapeSpent);
-    };
-    if !((3 <= list2.len()) & (3 <= list3.len())) {
-        return Err(Shortage::ListFull);
-    }
+    let [word_b, m12, word_b12] = *words;
     let v = bits_at(u, j);
     let b = low_bit(word_b);
     let b12 = low_bit(word_b12);
@@ -74,13 +71,12 @@ pub(crate) fn convert(
     let s32 = b13 ^ v.three;
     list::put(list2, 0, &[m12, b12, s32]);
     list::put(list3, 0, &[m13, b13, s23]);
-    Ok(Done {
-        shares: converted(s23 ^ s32, m12, m13),
-        place: next,
-    })
+    converted(s23 ^ s32, m12, m13)
 }
 
 // Bit j of a bit word as a ring value.
+#[tactic(auto, using(crate::proofs::Laws::Lent::bit_performs), unfolding(crate::specs::Bit::bit))]
+#[inline(always)]
 pub fn bit(
     u: Shares,
     j: u32,
@@ -91,5 +87,14 @@ pub fn bit(
     ensures same { Same lists.old lists.new }
     ensures done { delivered (outcome place result) (lists_of lists.new) ≡ delivery place (perform (spec.bit (modulus 5) j) u place (tapes_of tapes.now)) (lists_of lists.old) }
 {
-    convert(u, j, place, tapes.one, lists.two, lists.three)
+    let Some((words, next)) = place.draw::<3>(Party::One, tapes.one) else {
+        return Err(Shortage::TapeSpent);
+    };
+    if !lists.have_room(0, 3, 3, 0) {
+        return Err(Shortage::ListFull);
+    }
+    Ok(Done {
+        shares: convert(u, j, words, lists.two, lists.three),
+        place: next,
+    })
 }

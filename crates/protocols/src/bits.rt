@@ -1,11 +1,12 @@
 // Bits.
-ghost use Rattle.std.specs.Prelude.{◌≡◌, ◌+◌, ◌*◌, true, []};
+ghost use Rattle.std.specs.Prelude.{◌≡◌, ◌+◌, ◌*◌, [], length, bit_and};
 ghost use Rattle.protocols.specs.Word.{modulus, width};
-ghost use Rattle.protocols.specs.Place.{tapes, lists, enough, to_next, to_two_three, ◌followed_by◌};
+ghost use Rattle.protocols.specs.Shares.{at, each};
+ghost use Rattle.protocols.specs.Place.{tapes, lists, to_next, to_two_three, ◌followed_by◌};
 ghost use Rattle.protocols.specs.Protocol.{perform};
 ghost use Rattle.protocols.specs.Outcome.{outcome, delivered, delivery, fronts, puts};
 ghost use Rattle.protocols.specs.Counts.{received};
-ghost use Rattle.protocols.specs.Lent.{tapes_of, lists_of, Same, Room};
+ghost use Rattle.protocols.specs.Lent.{tapes_of, lists_of, Same, Room, Block};
 ghost use Rattle.protocols.specs.Masked.{masked};
 ghost use Rattle.protocols.specs.WordForm as word;
 ghost use Rattle.protocols.specs.Bits as spec;
@@ -13,7 +14,7 @@ ghost use Rattle.protocols.specs.Bits as spec;
 use super::lent::{Lists, Tapes};
 use super::masked::Round;
 use super::outcome::{Done, Shortage};
-use super::place::{Party, Place};
+use super::place::Place;
 use super::shares::Shares;
 use super::{list, masked, ring};
 
@@ -62,27 +63,36 @@ fn spread(round: Round, x: u32) -> u32
     ((t << (1u32 << round.k)) - t) << 1
 }
 
-// A miner's s after round k, from its own masked shares p, s and the previous miner's x, y.
-fn round_s(round: Round, p: u32, x: u32, s: u32, y: u32) -> u32
-    ensures { result ≡ spec.round_s (width 5) round.k p x s y }
+// A word where bit k of the position is clear, and 0 elsewhere.
+fn clear(round: Round, x: u32) -> u32
+    ensures { result ≡ bit_and x (word.clear 5 round.k) }
 {
-    s ^ masked::and_share(p, x, spread(round, s), spread(round, y))
+    x & CLEAR[round.k as usize]
 }
 
-// A miner's p after round k.
-fn round_p(round: Round, p: u32, x: u32) -> u32
-    ensures { result ≡ spec.round_p (width 5) round.k p x }
+// Each miner's word, spread.
+fn spread_each(round: Round, x: Shares) -> Shares
+    ensures { result ≡ each (λ i. word.spread 5 round.k (at i x)) }
 {
-    (p & CLEAR[round.k as usize]) ^ masked::and_share(p, x, spread(round, p), spread(round, x))
+    x.map(|x| spread(round, x))
+}
+
+// Each miner's word, cleared so.
+fn clear_each(round: Round, x: Shares) -> Shares
+    ensures { result ≡ each (λ i. bit_and (at i x) (word.clear 5 round.k)) }
+{
+    x.map(|x| clear(round, x))
 }
 
 // Round k on every miner's masked shares, with the masks of the next round.
 fn carried(round: Round, p: Shares, s: Shares, q: Shares, t: Shares, base: Shares) -> Held
     ensures { result ≡ spec.carried (width 5) round.k p s q t base }
 {
+    let carry = masked::and_shares(p, spread_each(round, s));
+    let both = masked::and_shares(p, spread_each(round, p));
     Held {
-        p: p.zip(p.previous(), |own, previous| round_p(round, own, previous)),
-        s: p.zip_previous(s, |p, s, x, y| round_s(round, p, x, s, y)),
+        p: clear_each(round, p).zip(both, masked::xor),
+        s: s.zip(carry, masked::xor),
         q,
         t,
         base,
@@ -128,8 +138,9 @@ fn joined(h: Held) -> Shares
 // The dealing, with the masks of the first round sent on. (bar2, bar3 are document 01's R2, R3.)
 #[tactic(auto, unfolding(crate::specs::Bits::deal))]
 fn deal(u: Shares, words: &[u32; 3], q: Shares, t: Shares, lists: &mut Lists) -> Held
-    requires { Room 2 5 5 (lists_of lists.old) }
+    requires { Room 22 25 25 (lists_of lists.old) }
     ensures same { Same lists.old lists.new }
+    ensures room { Room 22 25 25 (lists_of lists.new) }
     ensures dealt { let w = tapes [] words.now [] [] in let d = (spec.deal 5).result u w in (result ≡ spec.begun d q t) × (lists_of lists.new ≡ fronts (lists_of lists.old) ((spec.deal 5).received u w followed_by to_next q followed_by to_next t followed_by to_two_three d.v3 d.v2)) }
 {
     let [r, r2, bar2] = *words;
@@ -142,12 +153,12 @@ fn deal(u: Shares, words: &[u32; 3], q: Shares, t: Shares, lists: &mut Lists) ->
     begun(dealt, q, t)
 }
 
-// Round k: the masked shares and the masks of the next round sent on, and what the miners then hold. (A call of its own: within the loop
-// its words find no registers.)
-#[inline(never)]
+// Round k: the masked shares and the masks of the next round sent on, and what the miners then hold.
+#[inline(always)]
 fn round(round: Round, held: Held, q: Shares, t: Shares, lists: &mut Lists) -> Held
     requires { Room 22 25 25 (lists_of lists.old) }
     ensures same { Same lists.old lists.new }
+    ensures room { Room 22 25 25 (lists_of lists.new) }
     ensures carried { let p = masked held.p held.q in let s = masked held.s held.t in let w = to_next p followed_by to_next s followed_by to_next q followed_by to_next t in (result ≡ spec.carried (width 5) round.k p s q t held.base) × (lists_of lists.new ≡ puts (let n = 4 * round.k in received (2 + n) (5 + n) (5 + n) 0) (lists_of lists.old) w) }
 {
     let p = masked::masked(held.p, held.q);
@@ -157,50 +168,87 @@ fn round(round: Round, held: Held, q: Shares, t: Shares, lists: &mut Lists) -> H
     carried(round, p, s, q, t, held.base)
 }
 
-// The dealing and the rounds, where every tape and list has enough. (As `folds` of Equal, but each deals, draws and computes something
-// else; what they share is in `masked.rt` and `list.rt`.)
-pub(crate) fn rounds(
+// The dealing and the rounds, on the words drawn: three of miner 1, then two masks of each miner for the dealing and for each round. (The
+// rounds are written out: so each has its masks as constants.)
+#[inline(always)]
+fn rounds(u: Shares, words: Tapes, lists: &mut Lists) -> Shares
+    requires { Block 15 12 12 (tapes_of words) × Room 22 25 25 (lists_of lists.old) }
+    ensures same { Same lists.old lists.new }
+    ensures done { (result ≡ (spec.bits 5).result u (tapes_of words.entry)) × (lists_of lists.new ≡ fronts (lists_of lists.old) ((spec.bits 5).received u (tapes_of words.entry))) }
+{
+    let dealer = [words.one[0], words.one[1], words.one[2]];
+    let held = deal(u, &dealer, words.at(3, 0), words.at(3, 1), lists);
+    let held = round(Round { k: 0 }, held, words.at(3, 2), words.at(3, 3), lists);
+    let held = round(Round { k: 1 }, held, words.at(3, 4), words.at(3, 5), lists);
+    let held = round(Round { k: 2 }, held, words.at(3, 6), words.at(3, 7), lists);
+    let held = round(Round { k: 3 }, held, words.at(3, 8), words.at(3, 9), lists);
+    let held = round(
+        Round { k: 4 },
+        held,
+        words.at(3, 10),
+        words.at(3, 11),
+        lists,
+    );
+    joined(held)
+}
+
+// On lists that are lent one by one, since Below lends parts of its own.
+#[inline(always)]
+pub(crate) fn rounds_on(
+    u: Shares,
+    words: Tapes,
+    one: &mut [u32],
+    two: &mut [u32],
+    three: &mut [u32],
+) -> Shares
+    requires { Block 15 12 12 (tapes_of words) × Room 22 25 25 (lists one.old two.old three.old []) }
+    ensures { (result ≡ (spec.bits 5).result u (tapes_of words.entry)) × (lists one.new two.new three.new [] ≡ fronts (lists one.old two.old three.old []) ((spec.bits 5).received u (tapes_of words.entry))) }
+{
+    let mut lists = Lists {
+        one,
+        two,
+        three,
+        controller: &mut [],
+    };
+    rounds(u, words, &mut lists)
+}
+
+// Bits, on lists that are lent one by one: so nothing of what its caller holds has to stand in memory. (A call of its own, since it is too
+// long to stand in the run of commands.)
+#[inline(never)]
+fn bits_on(
     u: Shares,
     place: Place,
-    tapes: &Tapes,
-    lists: &mut Lists,
+    tapes: Tapes,
+    one: &mut [u32],
+    two: &mut [u32],
+    three: &mut [u32],
 ) -> Result<Done, Shortage>
-    requires { (enough (spec.bits 5).draws place (tapes_of tapes.now) ≡ true) × Room 22 25 25 (lists_of lists.old) }
-    ensures same { Same lists.old lists.new }
-    ensures room { Room 22 25 25 (lists_of lists.new) }
-    ensures done { delivered (outcome place result) (lists_of lists.new) ≡ delivery place (perform (spec.bits 5) u place (tapes_of tapes.now)) (lists_of lists.old) }
+    ensures { delivered (outcome place result) (lists one.new two.new three.new []) ≡ delivery place (perform (spec.bits 5) u place (tapes_of tapes.entry)) (lists one.old two.old three.old []) }
 {
-    let Some((words, dealt_at)) = place.draw::<3>(Party::One, tapes.one) else {
+    let Some(((tape1, tape2, tape3), next)) = place.draw_block::<15, 12>(&tapes) else {
         return Err(Shortage::TapeSpent);
     };
-    let Some(((q, t), begun_at)) = dealt_at.draw_pairs(tapes) else {
-        return Err(Shortage::TapeSpent);
-    };
-    let mut held = deal(u, words, q, t, lists);
-    let mut at = begun_at;
-    for k in 0..5 {
-        let Some(((q, t), next)) = at.draw_pairs(tapes) else {
-            return Err(Shortage::TapeSpent);
-        };
-        held = round(Round { k }, held, q, t, lists);
-        at = next;
+    if !list::have_room(one, two, three, 22, 25, 25) {
+        return Err(Shortage::ListFull);
     }
+    let words = Tapes {
+        provider: &[],
+        one: tape1,
+        two: tape2,
+        three: tape3,
+    };
     Ok(Done {
-        shares: joined(held),
-        place: at,
+        shares: rounds_on(u, words, one, two, three),
+        place: next,
     })
 }
 
 // The bits of a ring value, as a bit word.
+#[inline(always)]
 pub fn bits(u: Shares, place: Place, tapes: &Tapes, lists: &mut Lists) -> Result<Done, Shortage>
     ensures same { Same lists.old lists.new }
     ensures done { delivered (outcome place result) (lists_of lists.new) ≡ delivery place (perform (spec.bits 5) u place (tapes_of tapes.now)) (lists_of lists.old) }
 {
-    if !tapes.have(place, 15, 12, 12) {
-        return Err(Shortage::TapeSpent);
-    }
-    if !lists.have_room(22, 25, 25, 0) {
-        return Err(Shortage::ListFull);
-    }
-    rounds(u, place, tapes, lists)
+    bits_on(u, place, *tapes, lists.one, lists.two, lists.three)
 }

@@ -1,7 +1,8 @@
 // Draws by every miner at once. (Each draw is taken apart by `let .. else`, here and in the protocols: see `Place::draw`.)
 ghost use Rattle.std.specs.Prelude.{◌≡◌};
-ghost use Rattle.protocols.specs.Draws.{draw_each, draw_pairs};
-ghost use Rattle.protocols.specs.Lent.{tapes_of};
+ghost use Rattle.protocols.specs.Place.{counts};
+ghost use Rattle.protocols.specs.Draws.{draw_each, draw_pairs, draw_block};
+ghost use Rattle.protocols.specs.Lent.{tapes_of, drawn_block};
 
 use super::lent::Tapes;
 use super::place::{Party, Place};
@@ -26,18 +27,49 @@ impl Place {
         Some((Shares { one, two, three }, place3))
     }
 
+    // So many words of each miner's tape at once. (Miners 2 and 3 always draw alike.)
+    #[tactic(auto, using(crate::proofs::Laws::Draws::block_in_turn))]
+    #[inline(always)]
+    pub fn draw_block<'a, const ONE: usize, const OTHERS: usize>(
+        self,
+        tapes: &Tapes<'a>,
+    ) -> Option<
+        (
+            (&'a [u32; ONE], &'a [u32; OTHERS], &'a [u32; OTHERS]),
+            Place,
+        ),
+    >
+        ensures { drawn_block result ≡ draw_block (counts 0 ONE OTHERS OTHERS) self (tapes_of tapes.now) }
+    {
+        let Some((one, place1)) = self.draw::<ONE>(Party::One, tapes.one) else {
+            return None;
+        };
+        let Some((two, place2)) = place1.draw::<OTHERS>(Party::Two, tapes.two) else {
+            return None;
+        };
+        let Some((three, place3)) = place2.draw::<OTHERS>(Party::Three, tapes.three) else {
+            return None;
+        };
+        Some(((one, two, three), place3))
+    }
+
     // Two words of each miner's tape: the first ones, the second ones.
-    #[tactic(auto, using(crate::proofs::Laws::Draws::pairs_are_two))]
+    #[tactic(auto, using(crate::proofs::Laws::Draws::pairs_of_block))]
     #[inline(always)]
     pub fn draw_pairs(self, tapes: &Tapes) -> Option<((Shares, Shares), Place)>
         ensures { result ≡ draw_pairs self (tapes_of tapes.now) }
     {
-        let Some((first, place1)) = self.draw_each(tapes) else {
+        let Some(((&[one, one2], &[two, two2], &[three, three2]), next)) = self.draw_block::<2, 2>(
+            tapes,
+        ) else {
             return None;
         };
-        let Some((second, place2)) = place1.draw_each(tapes) else {
-            return None;
+        let first = Shares { one, two, three };
+        let second = Shares {
+            one: one2,
+            two: two2,
+            three: three2,
         };
-        Some(((first, second), place2))
+        Some(((first, second), next))
     }
 }

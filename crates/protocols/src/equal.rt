@@ -1,12 +1,12 @@
 // Equal.
-ghost use Rattle.std.specs.Prelude.{◌≡◌, ◌+◌, ◌*◌, true, []};
+ghost use Rattle.std.specs.Prelude.{◌≡◌, ◌+◌, ◌*◌, ◌/◌, ◌^◌, [], length, bit_and};
 ghost use Rattle.protocols.specs.Word.{modulus, width};
-ghost use Rattle.protocols.specs.Shares.{operands};
-ghost use Rattle.protocols.specs.Place.{tapes, lists, enough, to_next, ◌followed_by◌};
+ghost use Rattle.protocols.specs.Shares.{at, each, operands};
+ghost use Rattle.protocols.specs.Place.{tapes, lists, to_next, ◌followed_by◌};
 ghost use Rattle.protocols.specs.Protocol.{perform};
 ghost use Rattle.protocols.specs.Outcome.{outcome, delivered, delivery, fronts, puts};
 ghost use Rattle.protocols.specs.Counts.{received};
-ghost use Rattle.protocols.specs.Lent.{tapes_of, lists_of, Same, Room};
+ghost use Rattle.protocols.specs.Lent.{tapes_of, lists_of, Same, Room, Block};
 ghost use Rattle.protocols.specs.Masked.{masked};
 ghost use Rattle.protocols.specs.WordForm as word;
 ghost use Rattle.protocols.specs.Equal as spec;
@@ -14,7 +14,7 @@ ghost use Rattle.protocols.specs.Equal as spec;
 use super::lent::{Lists, Tapes};
 use super::masked::Round;
 use super::outcome::{Done, Shortage};
-use super::place::{Party, Place};
+use super::place::Place;
 use super::shares::Shares;
 use super::{bit, list, local, masked, ring};
 
@@ -43,24 +43,42 @@ static OTHERS: [u32; 5] = [
     0xffff_fffe,
 ];
 
-// A miner's p after round k, from its own masked share and the previous miner's.
-fn fold_share(round: Round, p: u32, x: u32) -> u32
-    ensures { result ≡ spec.fold_share (width 5) round.k p x }
+// The word shifted down to the heads, which take the 'and' with it.
+fn shifted(round: Round, x: u32) -> u32
+    ensures { result ≡ bit_and (x / 2 ^ (2 ^ round.k)) (word.heads 5 round.k) }
 {
-    let heads = HEADS[round.k as usize];
-    let others = OTHERS[round.k as usize];
     let stride = 1u32 << round.k;
-    (p & others) ^ masked::and_share(p, x, (p >> stride) & heads, (x >> stride) & heads)
+    (x >> stride) & HEADS[round.k as usize]
+}
+
+// A word but for its heads, which are 0.
+fn headless(round: Round, x: u32) -> u32
+    ensures { result ≡ bit_and x (word.others 5 round.k) }
+{
+    x & OTHERS[round.k as usize]
+}
+
+// Each miner's word, shifted so.
+fn shifted_each(round: Round, x: Shares) -> Shares
+    ensures { result ≡ each (λ i. bit_and (at i x / 2 ^ (2 ^ round.k)) (word.heads 5 round.k)) }
+{
+    x.map(|x| shifted(round, x))
+}
+
+// Each miner's word but for its heads.
+fn headless_each(round: Round, x: Shares) -> Shares
+    ensures { result ≡ each (λ i. bit_and (at i x) (word.others 5 round.k)) }
+{
+    x.map(|x| headless(round, x))
 }
 
 // Round k on every miner's masked shares, with the masks of the next round.
 fn folded(round: Round, p: Shares, q: Shares) -> Folding
     ensures { result ≡ spec.folded (width 5) round.k p q }
 {
+    let both = masked::and_shares(p, shifted_each(round, p));
     Folding {
-        p: p.zip(p.previous(), |own, previous| {
-            fold_share(round, own, previous)
-        }),
+        p: headless_each(round, p).zip(both, masked::xor),
         q,
     }
 }
@@ -79,8 +97,9 @@ fn compared(d: Shares, r2: u32, r3: u32) -> Shares
 // The comparison, with the masks of the first round sent on.
 #[tactic(auto, unfolding(crate::specs::Equal::compare))]
 fn compare(u: Shares, v: Shares, words: &[u32; 1], q: Shares, lists: &mut Lists) -> Folding
-    requires { Room 1 2 2 (lists_of lists.old) }
+    requires { Room 11 12 12 (lists_of lists.old) }
     ensures same { Same lists.old lists.new }
+    ensures room { Room 11 12 12 (lists_of lists.new) }
     ensures compared { let w = tapes [] words.now [] [] in (result.p ≡ (spec.compare 5).result (operands u v) w) × (result.q ≡ q) × (lists_of lists.new ≡ fronts (lists_of lists.old) ((spec.compare 5).received (operands u v) w followed_by to_next q)) }
 {
     let [r2] = *words;
@@ -97,8 +116,9 @@ fn compare(u: Shares, v: Shares, words: &[u32; 1], q: Shares, lists: &mut Lists)
 
 // Round k: the masked shares and the masks of the next round sent on, and what the miners then hold.
 fn round(round: Round, held: Folding, q: Shares, lists: &mut Lists) -> Folding
-    requires { Room 11 15 15 (lists_of lists.old) }
+    requires { Room 11 12 12 (lists_of lists.old) }
     ensures same { Same lists.old lists.new }
+    ensures room { Room 11 12 12 (lists_of lists.new) }
     ensures folded { let p = masked held.p held.q in let w = to_next p followed_by to_next q in (result ≡ spec.folded (width 5) round.k p q) × (lists_of lists.new ≡ puts (let n = 2 * round.k in received (1 + n) (2 + n) (2 + n) 0) (lists_of lists.old) w) }
 {
     let p = masked::masked(held.p, held.q);
@@ -107,44 +127,79 @@ fn round(round: Round, held: Folding, q: Shares, lists: &mut Lists) -> Folding
     folded(round, p, q)
 }
 
-// The folds and Bit, where every tape and list has enough.
-fn folds(
+// The comparison and the folds, on the words drawn: one of miner 1, then a mask of each miner for the comparison and for each fold.
+#[inline(always)]
+fn folds(u: Shares, v: Shares, words: Tapes, lists: &mut Lists) -> Shares
+    requires { Block 7 6 6 (tapes_of words) × Room 11 12 12 (lists_of lists.old) }
+    ensures same { Same lists.old lists.new }
+    ensures done { let f = spec.folds 5 5 in let w = tapes_of words.entry in (result ≡ (f.result (operands u v) w).p) × (lists_of lists.new ≡ fronts (lists_of lists.old) (f.received (operands u v) w)) }
+{
+    let held = compare(u, v, &[words.one[0]], words.at(1, 0), lists);
+    let held = round(Round { k: 0 }, held, words.at(1, 1), lists);
+    let held = round(Round { k: 1 }, held, words.at(1, 2), lists);
+    let held = round(Round { k: 2 }, held, words.at(1, 3), lists);
+    let held = round(Round { k: 3 }, held, words.at(1, 4), lists);
+    let held = round(Round { k: 4 }, held, words.at(1, 5), lists);
+    held.p
+}
+
+// On lists that are lent one by one.
+#[inline(always)]
+fn folds_on(
+    u: Shares,
+    v: Shares,
+    words: Tapes,
+    one: &mut [u32],
+    two: &mut [u32],
+    three: &mut [u32],
+) -> Shares
+    requires { Block 7 6 6 (tapes_of words) × Room 11 12 12 (lists one.old two.old three.old []) }
+    ensures { let f = spec.folds 5 5 in let w = tapes_of words.entry in (result ≡ (f.result (operands u v) w).p) × (lists one.new two.new three.new [] ≡ fronts (lists one.old two.old three.old []) (f.received (operands u v) w)) }
+{
+    let mut lists = Lists {
+        one,
+        two,
+        three,
+        controller: &mut [],
+    };
+    folds(u, v, words, &mut lists)
+}
+
+// Equal, on lists that are lent one by one. (A call of its own, as Bits is.)
+#[inline(never)]
+fn equal_on(
     u: Shares,
     v: Shares,
     place: Place,
-    tapes: &Tapes,
-    lists: &mut Lists,
+    tapes: Tapes,
+    one: &mut [u32],
+    two: &mut [u32],
+    three: &mut [u32],
 ) -> Result<Done, Shortage>
-    requires { (enough (spec.equal 5).draws place (tapes_of tapes.now) ≡ true) × Room 11 15 15 (lists_of lists.old) }
-    ensures same { Same lists.old lists.new }
-    ensures done { delivered (outcome place result) (lists_of lists.new) ≡ delivery place (perform (spec.equal 5) (operands u v) place (tapes_of tapes.now)) (lists_of lists.old) }
+    ensures { delivered (outcome place result) (lists one.new two.new three.new []) ≡ delivery place (perform (spec.equal 5) (operands u v) place (tapes_of tapes.entry)) (lists one.old two.old three.old []) }
 {
-    let Some((words, compared_at)) = place.draw::<1>(Party::One, tapes.one) else {
+    let Some(((tape1, tape2, tape3), next)) = place.draw_block::<10, 6>(&tapes) else {
         return Err(Shortage::TapeSpent);
     };
-    let Some((q, begun_at)) = compared_at.draw_each(tapes) else {
-        return Err(Shortage::TapeSpent);
-    };
-    let mut held = compare(u, v, words, q, lists);
-    let mut at = begun_at;
-    for k in 0..5 {
-        let Some((q, next)) = at.draw_each(tapes) else {
-            return Err(Shortage::TapeSpent);
-        };
-        held = round(Round { k }, held, q, lists);
-        at = next;
+    if !list::have_room(one, two, three, 11, 15, 15) {
+        return Err(Shortage::ListFull);
     }
-    bit::convert(
-        held.p,
-        0,
-        at,
-        tapes.one,
-        &mut lists.two[12..],
-        &mut lists.three[12..],
-    )
+    let words = Tapes {
+        provider: &[],
+        one: &tape1[..7],
+        two: tape2,
+        three: tape3,
+    };
+    let word = folds_on(u, v, words, one, two, three);
+    let bit_words = [tape1[7], tape1[8], tape1[9]];
+    Ok(Done {
+        shares: bit::convert(word, 0, &bit_words, &mut two[12..], &mut three[12..]),
+        place: next,
+    })
 }
 
 // 1 if u and v are equal, else 0.
+#[inline(always)]
 pub fn equal(
     u: Shares,
     v: Shares,
@@ -155,11 +210,5 @@ pub fn equal(
     ensures same { Same lists.old lists.new }
     ensures done { delivered (outcome place result) (lists_of lists.new) ≡ delivery place (perform (spec.equal 5) (operands u v) place (tapes_of tapes.now)) (lists_of lists.old) }
 {
-    if !tapes.have(place, 10, 6, 6) {
-        return Err(Shortage::TapeSpent);
-    }
-    if !lists.have_room(11, 15, 15, 0) {
-        return Err(Shortage::ListFull);
-    }
-    folds(u, v, place, tapes, lists)
+    equal_on(u, v, place, *tapes, lists.one, lists.two, lists.three)
 }

@@ -1,13 +1,14 @@
 // What is lent to a protocol.
-ghost use Rattle.std.specs.Prelude.{◌≡◌};
-ghost use Rattle.protocols.specs.Place.{counts, enough};
+ghost use Rattle.std.specs.Prelude.{◌≡◌, ◌+◌, ◌<◌, length};
 ghost use Rattle.protocols.specs.Counts.{received};
 ghost use Rattle.protocols.specs.Outcome.{holds};
-ghost use Rattle.protocols.specs.Lent.{tapes_of, lists_of};
+ghost use Rattle.protocols.specs.Lent.{tapes_of, lists_of, words_at};
 
-use super::place::Place;
+use super::list;
+use super::shares::Shares;
 
 // Four tapes.
+#[repr(C)]
 #[derive(Clone, Copy, Drop)]
 pub struct Tapes<'a> {
     pub provider: &'a [u32],
@@ -18,6 +19,7 @@ pub struct Tapes<'a> {
 
 // Four lists of received words, or what is unfilled of them. (That they stay the same lists is a clause of each function that is lent
 // them, `Same`: the check tells what a list holds after a call only by it.)
+#[repr(C)]
 #[derive(Drop)]
 pub struct Lists<'a> {
     pub one: &'a mut [u32],
@@ -27,17 +29,17 @@ pub struct Lists<'a> {
 }
 
 impl Tapes<'_> {
-    // Whether the miners' tapes have so many words left at the place. (Bits, Equal and Below begin with this and `have_room`, each by its own
-    // counts.)
-    #[tactic(auto, using(crate::proofs::Laws::Draws::enough_miners))]
+    // Word k of each miner's tape, miner 1 having `ahead` more before it.
     #[inline(always)]
-    pub(crate) fn have(&self, place: Place, one: usize, two: usize, three: usize) -> bool
-        ensures { result ≡ enough (counts 0 one two three) place (tapes_of self.now) }
+    pub(crate) fn at(&self, ahead: usize, k: usize) -> Shares
+        requires { (ahead + k < length self.now.one.now) × (k < length self.now.two.now) × (k < length self.now.three.now) }
+        ensures { result ≡ words_at (tapes_of self.now) (ahead + k) k }
     {
-        let drawn = place.drawn;
-        (one <= self.one.len().saturating_sub(drawn.one))
-            & ((two <= self.two.len().saturating_sub(drawn.two))
-                & (three <= self.three.len().saturating_sub(drawn.three)))
+        Shares {
+            one: self.one[ahead + k],
+            two: self.two[k],
+            three: self.three[k],
+        }
     }
 }
 
@@ -55,6 +57,6 @@ impl Lists<'_> {
         ensures { result ≡ holds (lists_of self.now) (received one two three controller) }
     {
         (controller <= self.controller.len())
-            & ((one <= self.one.len()) & ((two <= self.two.len()) & (three <= self.three.len())))
+            & list::have_room(self.one, self.two, self.three, one, two, three)
     }
 }

@@ -1,8 +1,9 @@
 // Received words, put into lent lists.
-ghost use Rattle.std.specs.Prelude.{◌≡◌, ◌+◌, ◌≤◌, length};
+ghost use Rattle.std.specs.Prelude.{◌≡◌, ◌+◌, ◌≤◌, length, []};
 ghost use Rattle.std.proofs.lemmas.List.Edits.{sets};
 ghost use Rattle.protocols.specs.Counts.{received};
-ghost use Rattle.protocols.specs.Outcome.{puts};
+ghost use Rattle.protocols.specs.Place.{lists};
+ghost use Rattle.protocols.specs.Outcome.{puts, holds};
 ghost use Rattle.protocols.specs.Lent.{lists_of, Same, Room, to_next_in_order};
 
 use super::lent::Lists;
@@ -16,6 +17,21 @@ pub(crate) fn put(list: &mut [u32], at: usize, words: &[u32])
     ensures { list.new ≡ sets list.old at words.now }
 {
     list[at..at + words.len()].copy_from_slice(words);
+}
+
+// Whether the miners' lists, lent one by one, have room for so many words.
+#[inline(always)]
+pub(crate) fn have_room(
+    list1: &[u32],
+    list2: &[u32],
+    list3: &[u32],
+    one: usize,
+    two: usize,
+    three: usize,
+) -> bool
+    ensures { result ≡ holds (lists list1.now list2.now list3.now []) (received one two three 0) }
+{
+    (one <= list1.len()) & ((two <= list2.len()) & (three <= list3.len()))
 }
 
 impl Lists<'_> {

@@ -1,5 +1,6 @@
 // What the rounds of Bits and Equal share.
-ghost use Rattle.std.specs.Prelude.{◌≡◌, ◌<◌};
+ghost use Rattle.std.specs.Prelude.{◌≡◌, ◌<◌, bit_xor};
+ghost use Rattle.protocols.specs.Shares.{at, each, prev};
 ghost use Rattle.protocols.specs.Masked as spec;
 
 use super::shares::Shares;
@@ -11,11 +12,18 @@ pub(crate) struct Round {
     ghost below: { k < 5 },
 }
 
+// Exclusive or.
+pub(crate) fn xor(a: u32, b: u32) -> u32
+    ensures { result ≡ bit_xor a b }
+{
+    a ^ b
+}
+
 // Shares masked with own and previous masks, by exclusive or.
 pub fn masked(p: Shares, q: Shares) -> Shares
     ensures { result ≡ spec.masked p q }
 {
-    p.zip(q, |p, q| p ^ q).zip(q.previous(), |p, q| p ^ q)
+    p.zip(q, xor).zip(q.previous(), xor)
 }
 
 // A miner's share of a shared 'and', from its own shares a, b and the previous miner's x, y.
@@ -23,4 +31,11 @@ pub fn and_share(a: u32, x: u32, b: u32, y: u32) -> u32
     ensures { result ≡ spec.and_share a x b y }
 {
     (a & b) ^ (a & y) ^ (x & b)
+}
+
+// The same of every miner.
+pub fn and_shares(a: Shares, b: Shares) -> Shares
+    ensures { result ≡ each (λ i. spec.and_share (at i a) (at (prev i) a) (at i b) (at (prev i) b)) }
+{
+    a.zip_previous(b, |a, b, x, y| and_share(a, x, b, y))
 }

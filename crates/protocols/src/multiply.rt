@@ -28,6 +28,7 @@ fn product(u: Shares, v: Shares) -> Shares
 
 // Shares of u times v.
 #[tactic(auto, using(crate::proofs::Laws::Lent::multiply_performs), unfolding(crate::specs::Multiply::multiply))]
+#[inline(always)]
 pub fn multiply(
     u: Shares,
     v: Shares,

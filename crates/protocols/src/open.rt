@@ -15,6 +15,7 @@ use super::{list, reshare, ring};
 
 // Fresh shares of a value go to the controller; the caller keeps the old ones.
 #[tactic(auto, using(crate::proofs::Laws::Lent::opening_performs), unfolding(crate::specs::Open::opening))]
+#[inline(always)]
 pub fn open(s: Shares, place: Place, tapes: &Tapes, lists: &mut Lists) -> Result<Done, Shortage>
     ensures same { Same lists.old lists.new }
     ensures done { delivered (outcome place result) (lists_of lists.new) ≡ delivery place (perform (opening (modulus 5)) s place (tapes_of tapes.now)) (lists_of lists.old) }

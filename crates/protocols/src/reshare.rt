@@ -21,6 +21,7 @@ pub fn fresh(s: Shares, r: Shares) -> Shares
 
 // Other shares of the same value.
 #[tactic(auto, using(crate::proofs::Laws::Lent::reshare_performs), unfolding(crate::specs::Reshare::reshare))]
+#[inline(always)]
 pub fn reshare(s: Shares, place: Place, tapes: &Tapes, lists: &mut Lists) -> Result<Done, Shortage>
     ensures same { Same lists.old lists.new }
     ensures done { delivered (outcome place result) (lists_of lists.new) ≡ delivery place (perform (spec.reshare (modulus 5)) s place (tapes_of tapes.now)) (lists_of lists.old) }

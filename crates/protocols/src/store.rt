@@ -14,6 +14,7 @@ use super::shares::Shares;
 
 // Shares of an input, two of them drawn by the provider.
 #[tactic(auto, using(crate::proofs::Laws::Lent::store_performs), unfolding(crate::specs::Store::store))]
+#[inline(always)]
 pub fn store(v: u32, place: Place, tapes: &Tapes, lists: &mut Lists) -> Result<Done, Shortage>
     ensures same { Same lists.old lists.new }
     ensures done { delivered (outcome place result) (lists_of lists.new) ≡ delivery place (perform (spec.store (modulus 5)) v place (tapes_of tapes.now)) (lists_of lists.old) }

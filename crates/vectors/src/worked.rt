@@ -1,8 +1,7 @@
 // Document 01's cases, and Bit at the ends of a word and past it.
-use crate::case::{Case, WHOLE_LISTS, WHOLE_TAPES};
+use crate::case::{Case, Operands, WHOLE_LISTS, WHOLE_TAPES};
 use crate::{lists, print, words};
 use machine::code::Code;
-use machine::given::Given;
 use protocols::lent::Tapes;
 use protocols::open;
 use protocols::place::Place;
@@ -11,8 +10,8 @@ use std::io;
 use std::io::Write;
 
 // A shared value, with an input, a constant or a position.
-fn with(u: [u32; 3], input: u32) -> Given {
-    Given {
+fn with(u: [u32; 3], input: u32) -> Operands {
+    Operands {
         input,
         u: Shares::from(u),
         v: Shares::default(),
@@ -20,8 +19,8 @@ fn with(u: [u32; 3], input: u32) -> Given {
 }
 
 // Two shared values.
-fn pair(u: [u32; 3], v: [u32; 3]) -> Given {
-    Given {
+fn pair(u: [u32; 3], v: [u32; 3]) -> Operands {
+    Operands {
         v: Shares::from(v),
         ..with(u, 0)
     }
@@ -54,7 +53,13 @@ fn of_provider(provider: &[u32]) -> Tapes<'_> {
 }
 
 // Performs a case from an empty place record, and prints it with the value that its shares give.
-fn line(out: &mut impl Write, label: &str, code: Code, x: Given, tapes: Tapes) -> io::Result<()> {
+fn line(
+    out: &mut impl Write,
+    label: &str,
+    code: Code,
+    x: Operands,
+    tapes: Tapes,
+) -> io::Result<()> {
     let case = Case {
         code,
         operands: x,
@@ -70,7 +75,13 @@ fn line(out: &mut impl Write, label: &str, code: Code, x: Given, tapes: Tapes) -
 }
 
 // Tapes of numbers in a row, but for the first word of miner 1's.
-fn in_a_row(out: &mut impl Write, label: &str, code: Code, x: Given, first: u32) -> io::Result<()> {
+fn in_a_row(
+    out: &mut impl Write,
+    label: &str,
+    code: Code,
+    x: Operands,
+    first: u32,
+) -> io::Result<()> {
     let mut one = words::in_a_row::<18>(1);
     let two = words::in_a_row::<12>(20);
     let three = words::in_a_row::<12>(40);

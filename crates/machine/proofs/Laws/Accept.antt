@@ -21,7 +21,7 @@ use Rattle.machine.specs.declared.answer.Answer.{Answer}
 use Rattle.machine.specs.declared.code.Code.{Code}
 use Rattle.machine.specs.declared.code.Code.TheVariants.{Store, Add, Subtract, AddConstant, TimesConstant, Multiply, Reshare, Bits, Bit, Equal, Open, Below}
 use Rattle.machine.specs.declared.code.Command.{Command}
-use Rattle.machine.specs.declared.given.Given.{Given}
+use Rattle.machine.specs.Given.{Given}
 use Rattle.machine.specs.declared.lent.Sizes.{Sizes}
 use Rattle.machine.specs.declared.kind.Kind.TheVariants.{RingValue}
 use Rattle.machine.specs.declared.row.Row.{Row}

@@ -24,7 +24,7 @@ use Rattle.machine.specs.declared.code.Code.{Code}
 use Rattle.machine.specs.declared.code.Code.TheVariants.{Store, Add, Subtract, AddConstant, TimesConstant, Multiply, Reshare, Bits, Bit, Equal, Open, Below}
 use Rattle.machine.specs.declared.row.Use.{Use}
 use Rattle.machine.specs.declared.row.Use.TheVariants.{Unused, Handle, Word, Position}
-use Rattle.machine.specs.declared.given.Given.{Given}
+use Rattle.machine.specs.Given.{Given}
 use Rattle.machine.specs.declared.code.Command.{Command}
 use Rattle.machine.specs.Table.{find, kind_number, row, opens, moved}
 use Rattle.machine.specs.Lent.{table, Lent, lent, tape_lengths, sizes, entry, shares_at, Filled, AreWords}

@@ -13,7 +13,7 @@ use Rattle.protocols.specs.Outcome.{Outcome}
 use Rattle.protocols.specs.Word.{modulus}
 use Rattle.protocols.specs.Shares.{AreWords, shares}
 use Rattle.protocols.specs.Local.{sum, difference, shifted, multiple}
-use Rattle.machine.specs.declared.given.Given.{Given}
+use Rattle.machine.specs.Given.{Given}
 use Rattle.machine.specs.declared.code.Code.{Code}
 use Rattle.machine.specs.declared.code.Code.TheVariants.{Store, Add, Subtract, AddConstant, TimesConstant, Multiply, Reshare, Bits, Bit, Equal, Open, Below}
 use Rattle.machine.specs.Steps.{both, protocol}

@@ -1,6 +1,6 @@
 -- The run of a list of commands, a command a turn: what was done, the last answer, and what is lent.
 use Prim.Native.Nat.{ℕ, suc, ◌+◌, ◌/◌, ◌≤◌, ◌<◌}
-use mathlib.Core.Path.{◌≡◌, refl, sym, ap, ◌∙◌}
+use mathlib.Core.Path.{◌≡◌, refl, sym, ◌∙◌}
 use mathlib.Core.Bool.{Bool, true, false, cond}
 use mathlib.Core.List.{List, [], ◌∷◌, map}
 use native.Mathlib.Omega.{arith}
@@ -21,7 +21,7 @@ use Rattle.machine.specs.Verdict.{sound, check, verdict}
 use Rattle.machine.specs.Command.{Outcome, answer, outcome, command}
 use Rattle.machine.specs.Run.{Ran, ran, before, run_to_refusal, commands_of, accepted, refused_with, last_of, Ended, ended, end_of}
 use Rattle.machine.proofs.Laws.Runs.{to_refusal_none, to_refusal-first}
-use Rattle.machine.proofs.Laws.Threes.{of_words, commands_cut, commands_none, commands-one}
+use Rattle.machine.proofs.Laws.Threes.{of_words, commands_cut, commands_none}
 use Rattle.machine.proofs.Laws.Sound.{sound-after}
 
 -- the end of a run after k commands done before it, the last of them with the answer a
@@ -98,7 +98,7 @@ module _ (cut : List (List ℕ)) (k : ℕ) (a : Answer) (l : Lent) where
 
 -- ---- where number 4 applies
 
-refused_unsound : (n : ℕ) (c : Command) (p : Place) (l : Lent) → sound p (sizes l) l.kinds ≡ false → command n c p l ≡ outcome (answer 4 p 0) l
+pub refused_unsound : (n : ℕ) (c : Command) (p : Place) (l : Lent) → sound p (sizes l) l.kinds ≡ false → command n c p l ≡ outcome (answer 4 p 0) l
 unfolding command verdict
 refused_unsound n c p l e = rw e
 
@@ -141,14 +141,6 @@ to_refusal-one : (n : ℕ) (c : Command) (p : Place) (l : Lent) → let o = comm
 to_refusal-one n c p l =
     let o = command n c p l in
     to_refusal-first n c [] p l ∙ rw to_refusal_none (one_way (eqb o.answer.number 0) (before o (ran [] o.answer.place o.lent)))
-
--- its answer, and what is lent after it, are the command's
-pub run-one : (code a b : ℕ) (p : Place) (l : Lent) (e : Ended) → e ≡ end_of p (run_to_refusal 5 (commands_of (code ∷ a ∷ b ∷ [])) p l)
-    → outcome e.run.last e.lent ≡ command 5 (asked code a b) p l
-unfolding last_of
-run-one code a b p l e h =
-    let same = ap (λ (cs : List Command). run_to_refusal 5 cs p l) (commands-one code a b) ∙ to_refusal-one 5 (asked code a b) p l in
-    ap (λ (d : Ended). outcome d.run.last d.lent) (h ∙ ap (end_of p) same)
 
 -- ---- its last answer
 

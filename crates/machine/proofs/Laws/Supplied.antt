@@ -19,7 +19,7 @@ use Rattle.protocols.specs.Claims.{Lacks}
 use Rattle.protocols.proofs.Claims.{claims}
 use Rattle.machine.specs.declared.code.Code.{Code}
 use Rattle.machine.specs.declared.code.Command.{Command}
-use Rattle.machine.specs.declared.given.Given.{Given}
+use Rattle.machine.specs.Given.{Given}
 use Rattle.machine.specs.Table.{row}
 use Rattle.machine.specs.Lent.{Lent, tape_lengths, list_lengths, sizes}
 use Rattle.machine.specs.Verdict.{Verdict, Accepted, Refused, tapes_have, lists_have, supplied}

@@ -48,10 +48,5 @@ sums_cut m (x ∷ []) = refl
 sums_cut m (x ∷ y ∷ []) = refl
 sums_cut m (x ∷ y ∷ z ∷ l) = rw (three_more (length l)) (ap (λ (ws : List ℕ). sum_of m (shares x y z) ∷ ws) (sums_cut m l))
 
--- three words are one command
-pub commands-one : (code a b : ℕ) → commands_of (code ∷ a ∷ b ∷ []) ≡ command code a b ∷ []
-unfolding commands_of
-commands-one code a b = refl
-
 pub commands_end : (cs : List ℕ) (i : ℕ) → length cs ≤ i + 2 → commands_of (drop i cs) ≡ []
 commands_end cs i h = commands_none (drop i cs) (drop_short cs i h)

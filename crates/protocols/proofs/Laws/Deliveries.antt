@@ -1,5 +1,5 @@
 -- Deliveries: an answer's words at the front of the lent lists.
-use Rattle.std.proofs.Common.{◌≡◌, ℕ, ◌<◌, ◌≤◌, Bool, true, false, cond, ◌&&◌, leb, List, [], ◌∷◌, ◌++◌, length, drop, sym, refl, ap, ◌∙◌, subst, zero-add, arith, le-leb, leb-true}
+use Rattle.std.proofs.Common.{◌≡◌, ℕ, ◌<◌, ◌≤◌, Bool, true, false, ◌&&◌, leb, List, [], ◌∷◌, ◌++◌, length, drop, sym, refl, ap, ◌∙◌, subst, zero-add, arith, le-leb, leb-true}
 use borrow.Author.Tests.{lt-leb}
 use lib.Dec.{leb-zero}
 use lib.Seq.{sets, sets-eq}
@@ -9,12 +9,8 @@ use Rattle.protocols.specs.declared.place.Received.{Received}
 use Rattle.protocols.specs.declared.shares.Shares.{Shares}
 use Rattle.protocols.specs.Shares.{one, two, three}
 use Rattle.protocols.specs.Place.{Tapes, Lists, lists, Receiver, miner, controller, list, advance, enough, block, silence, ◌followed_by◌}
-use Rattle.protocols.specs.Protocol.{Protocol, Answer, done, spent, perform}
-use Rattle.std.specs.Prelude.{Result, Ok, Err}
-use Rattle.protocols.specs.declared.outcome.Done.{Done}
-use Rattle.protocols.specs.declared.outcome.Shortage.{Shortage}
-use Rattle.protocols.specs.declared.outcome.Shortage.TheVariants.{TapeSpent, ListFull}
-use Rattle.protocols.specs.Outcome.{Outcome, list_full, number, outcome, Delivered, finished, refused, delivered, delivery, room, fronts, puts}
+use Rattle.protocols.specs.Protocol.{Protocol, done, perform}
+use Rattle.protocols.specs.Outcome.{Outcome, Delivered, finished, refused, delivered, delivery, room, fronts, puts}
 use Rattle.protocols.specs.Counts.{received, due}
 use Rattle.protocols.specs.Lent.{Room}
 use Rattle.protocols.specs.Claims.{Delivers}
@@ -83,55 +79,7 @@ module _ {S : Type 0} (f : Protocol S Shares) (n : Drawn) (drawn : f.draws ≡ n
       let b = block f.draws p t in
       delivery_full f s p t l (rw drawn e) (rw (long s b controller, long s b (miner one), long s b (miner two), long s b (miner three)) g)
 
--- tapes that have enough words are not spent
-pub not_spent : {S T : Type 0} (f : Protocol S T) (s : S) (p : Place) (t : Tapes) → enough f.draws p t ≡ true → perform f s p t ≡ spent → (A : Type 0) → A
-unfolding perform
-not_spent {T = T} f s p t e g A = let z = ap number (rw e at g) in absurd (omega (arith, z))
-  where
-    number : Answer T → ℕ
-    number (done x w q) = 0
-    number spent = 1
-
 -- ---- what the code answers, from any place
-
--- what is turned down leaves the place
-place_kept : (p : Place) (a : Answer Shares) (l : Lists) → ¬ ((delivery p a l).outcome.number ≡ 0) → (delivery p a l).outcome.place ≡ p
-place_kept p spent l h = refl
-place_kept p (done s w q) l h = by_room (room l w) h
-  where
-    by_room : (b : Bool) → let d = cond b (delivered (finished s q) (fronts l w)) (delivered (refused list_full p) l) in ¬ (d.outcome.number ≡ 0) → d.outcome.place ≡ p
-    by_room true h = absurd (h refl)
-    by_room false h = refl
-
--- An answer is told from the place q of a protocol's last part; from p, where the whole began, it says the same: what is done brings its own
--- place, and what is turned down has left the place as it was.
-pub from_start : {S : Type 0} (f : Protocol S Shares) (s : S) (p : Place) (t : Tapes) (l₀ : Lists) (q : Place) (r : Result Done Shortage) (l : Lists)
-    → delivered (outcome q r) l ≡ delivery p (perform f s p t) l₀ → delivered (outcome p r) l ≡ delivery p (perform f s p t) l₀
-from_start f s p t l₀ q (Ok d) l h = h
-from_start f s p t l₀ q (Err e) l h = ap (λ (z : Place). delivered (refused (number e) z) l) (sym same) ∙ h
-  where
-    not_none : (w : Shortage) → ¬ (number w ≡ 0)
-    not_none TapeSpent z = absurd (omega (arith, z))
-    not_none ListFull z = absurd (omega (arith, z))
-
-    same : q ≡ p
-    same =
-        ap (λ (d : Delivered). d.outcome.place) h
-        ∙ place_kept p (perform f s p t) l₀ (λ z. not_none e (ap (λ (d : Delivered). d.outcome.number) h ∙ z))
-
--- tapes and lists that have enough are not short
-pub not_short : {S : Type 0} (f : Protocol S Shares) (s : S) (p : Place) (t : Tapes) (l₀ l : Lists) → enough f.draws p t ≡ true
-    → ((r : Receiver) → length (list r (f.received s (block f.draws p t))) ≤ length (list r l₀))
-    → (e : Shortage) → delivered (outcome p (Err e)) l ≡ delivery p (perform f s p t) l₀ → (A : Type 0) → A
-unfolding perform
-not_short f s p t l₀ l e h w d A =
-    let is : delivered (outcome p (Err w)) l ≡ delivered (finished (f.result s (block f.draws p t)) (advance p f.draws)) (fronts l₀ (f.received s (block f.draws p t))) =
-    d ∙ rw (e, room_true l₀ (f.received s (block f.draws p t)) h) in
-    go w (ap (λ (x : Delivered). x.outcome.number) is)
-  where
-    go : (w : Shortage) → (outcome p (Err w)).number ≡ 0 → A
-    go TapeSpent z = absurd (omega (arith, z))
-    go ListFull z = absurd (omega (arith, z))
 
 -- ---- what a delivery is
 
@@ -160,7 +108,7 @@ delivers p l s w q = record {
 
 -- ---- lists that receive nothing
 
-nothing : (l : List ℕ) → length l ≡ 0 → l ≡ []
+pub nothing : (l : List ℕ) → length l ≡ 0 → l ≡ []
 nothing [] e = refl
 nothing (x ∷ l) e = absurd (omega (arith, e))
 
@@ -201,30 +149,3 @@ module _ {S : Type 0} (f : Protocol S Shares) (s : S) (p : Place) (t : Tapes) (a
       by_tapes : (i : Bool) → enough f.draws p t ≡ i → delivered o (lists x y z d) ≡ delivery p (perform f s p t) (lists a b c d)
       by_tapes true e = by_room e others refl
       by_tapes false e = let is : delivered o (lists x y z []) ≡ delivered (refused 12 p) (lists a b c []) = h ∙ rw e in ap keep is ∙ sym (rw e)
-
-  pub one_kept : {y z w : List ℕ} → ((v : Tapes) → length (list (miner one) (f.received s v)) ≡ 0) → delivered o (lists [] y z w) ≡ delivery p (perform f s p t) (lists [] b c d)
-      → delivered o (lists a y z w) ≡ delivery p (perform f s p t) (lists a b c d)
-  unfolding perform
-  one_kept {y} {z} {w} silent h = by_tapes (enough f.draws p t) refl
-    where
-      v : Lists
-      v = f.received s (block f.draws p t)
-
-      none : v.one ≡ []
-      none = nothing v.one (silent (block f.draws p t))
-
-      others : Bool
-      others = leb (length v.controller) (length d) && (leb (length v.two) (length b) && leb (length v.three) (length c))
-
-      keep : Delivered → Delivered
-      keep r = delivered r.outcome (lists a r.lists.two r.lists.three r.lists.controller)
-
-      by_room : enough f.draws p t ≡ true → (i : Bool) → others ≡ i → delivered o (lists a y z w) ≡ delivery p (perform f s p t) (lists a b c d)
-      by_room e true g =
-          let is : delivered o (lists [] y z w) ≡ delivered (finished (f.result s (block f.draws p t)) (advance p f.draws)) (fronts (lists [] b c d) v) = h ∙ rw (e, none, g) in
-          ap keep is ∙ sym (rw (e, none, leb-zero, g))
-      by_room e false g = let is : delivered o (lists [] y z w) ≡ delivered (refused 13 p) (lists [] b c d) = h ∙ rw (e, none, g) in ap keep is ∙ sym (rw (e, none, leb-zero, g))
-
-      by_tapes : (i : Bool) → enough f.draws p t ≡ i → delivered o (lists a y z w) ≡ delivery p (perform f s p t) (lists a b c d)
-      by_tapes true e = by_room e others refl
-      by_tapes false e = let is : delivered o (lists [] y z w) ≡ delivered (refused 12 p) (lists [] b c d) = h ∙ rw e in ap keep is ∙ sym (rw e)

@@ -12,8 +12,8 @@ use Rattle.protocols.specs.declared.place.Place.{Place}
 use Rattle.protocols.specs.declared.shares.Shares.{Shares}
 use Rattle.protocols.specs.Shares.{shares}
 use Rattle.protocols.proofs.Laws.Blocks.{tapes_ext}
-use Rattle.protocols.specs.Draws.{draw_each, draw_pairs}
-use Rattle.protocols.specs.Place.{Tapes, tape, counts, count, with_count, plus, cut, rest, advance, moved, draw, every, has, enough, block}
+use Rattle.protocols.specs.Draws.{draw_each, draw_pairs, draw_block}
+use Rattle.protocols.specs.Place.{Tapes, tapes, tape, words, counts, count, with_count, plus, cut, rest, advance, moved, tape_number, draw, draw_case, every, has, enough, block}
 
 -- ---- tests of every party
 
@@ -290,33 +290,36 @@ module _ (p : Place) (t : Tapes) where
           enough_here Two = leb-true 1 _ f
           enough_here Three = leb-true 1 _ g
 
-  abbrev pub pairs_in_turn : Option ((Shares × Shares) × Place)
-  pairs_in_turn = after (draw_each p t) (λ q p₁. after (draw_each p₁ t) (λ s p₂. Some ((q, s), p₂)) None) None
+  -- a block of words of each miner's tape, one tape after the other
+  module _ (a b c : ℕ) where
+    abbrev pub tapes_in_turn : Option (Tapes × Place)
+    tapes_in_turn =
+        after (draw a One t.one p)
+        (λ x p₁. after (draw b Two t.two p₁) (λ y p₂. after (draw c Three t.three p₂) (λ z p₃. Some (tapes [] x y z, p₃)) None) None)
+        None
 
-  pub pairs_are_two : draw_pairs p t ≡ pairs_in_turn
-  unfolding draw_each draw_pairs block
-  pairs_are_two = sym (go (enough n p t) refl (enough n (advance p n) t) refl)
+    pub block_in_turn : draw_block (counts 0 a b c) p t ≡ tapes_in_turn
+    unfolding draw_block draw block
+    block_in_turn = sym (go (leb a (length t.one - p.drawn.one)) refl (leb b (length t.two - p.drawn.two)) refl (leb c (length t.three - p.drawn.three)) refl)
+      where
+        go : (x : Bool) → leb a (length t.one - p.drawn.one) ≡ x → (y : Bool) → leb b (length t.two - p.drawn.two) ≡ y → (z : Bool) → leb c (length t.three - p.drawn.three) ≡ z
+            → tapes_in_turn ≡ draw_block (counts 0 a b c) p t
+        go false e y f z g = rw (enough_miners a b c p t, e)
+        go true e false f z g = rw (enough_miners a b c p t, e, f)
+        go true e true f false g = rw (enough_miners a b c p t, e, f, g)
+        go true e true f true g = rw (enough_miners a b c p t, e, f, g) (cc (add-zero p.drawn.provider))
+
+  -- two words of each miner are a block of them
+  pub pairs_of_block : draw_pairs p t ≡ after {T = Tapes} (draw_block (counts 0 2 2 2) p t) (λ w q. Some ((words w 0, words w 1), q)) None
+  unfolding draw_pairs draw_block
+  pairs_of_block = go (enough (counts 0 2 2 2) p t)
     where
-      n : Drawn
-      n = counts 0 1 1 1
+      b : Tapes
+      b = block (counts 0 2 2 2) p t
 
-      go : (a : Bool) → enough n p t ≡ a → (b : Bool) → enough n (advance p n) t ≡ b → pairs_in_turn ≡ draw_pairs p t
-      go false e b f = rw (enough-plus n n p t, e)
-      go true e false f = rw (enough-plus n n p t, e, f)
-      go true e true f =
-          rw (enough-plus n n p t, e, f)
-          (cc (
-            block-first 1 p.drawn.one t.one (omega arith),
-            block-first 1 p.drawn.two t.two (omega arith),
-            block-first 1 p.drawn.three t.three (omega arith),
-            block-first 2 p.drawn.one t.one (omega arith),
-            block-first 2 p.drawn.two t.two (omega arith),
-            block-first 2 p.drawn.three t.three (omega arith),
-            block-first 1 (p.drawn.one + 1) t.one (omega arith),
-            block-first 1 (p.drawn.two + 1) t.two (omega arith),
-            block-first 1 (p.drawn.three + 1) t.three (omega arith),
-            block-word 2 p.drawn.one 1 t.one (omega arith),
-            block-word 2 p.drawn.two 1 t.two (omega arith),
-            block-word 2 p.drawn.three 1 t.three (omega arith),
-            advance-plus n n p,
-          ))
+      q : Place
+      q = advance p (counts 0 2 2 2)
+
+      go : (e : Bool) → draw_case {T = Shares × Shares} (tape_number e) (words b 0, words b 1) q ≡ after {T = Tapes} (draw_case (tape_number e) b q) (λ w q. Some ((words w 0, words w 1), q)) None
+      go true = refl
+      go false = refl

@@ -1,5 +1,5 @@
 -- Protocols on lent tapes in general: by their draws, one after the other, in rounds, and their outcomes.
-use Rattle.std.proofs.Common.{◌≡◌, ℕ, zero, suc, ◌+◌, ◌-◌, ◌≤◌, Bool, true, false, cond, ◌&&◌, leb, List, length, take, drop, refl, ap, ◌∙◌, ap₂, append-nil, add-zero, add-suc, add-one, arith, length-append}
+use Rattle.std.proofs.Common.{◌≡◌, ℕ, ◌+◌, ◌-◌, ◌≤◌, Bool, true, false, cond, ◌&&◌, leb, List, length, take, drop, refl, ap, ◌∙◌, ap₂, append-nil, add-zero, add-one, arith, length-append}
 use Rattle.protocols.specs.declared.place.Party.{Party}
 use Rattle.protocols.specs.declared.place.Party.TheVariants.{Provider, One, Two, Three}
 use Rattle.protocols.specs.Outcome.{finished, delivered, delivery, fronts, puts}
@@ -76,10 +76,6 @@ module _ {S T : Type 0} (f : Protocol S T) (s : S) (p : Place) (t : Tapes) where
   unfolding perform
   performs e = rw e
 
-  pub is_spent : enough f.draws p t ≡ false → perform f s p t ≡ spent
-  unfolding perform
-  is_spent e = rw e
-
 -- ---- one protocol after another
 
 -- what follows an answer, and words before an answer's
@@ -146,10 +142,6 @@ perform-locally f s p t =
 -- ---- parts done or spent
 
 module _ {S T Z : Type 0} (f : Protocol S T) (g : Protocol T Z) (s : S) (p : Place) (t : Tapes) where
-  -- a spent part makes the whole spent
-  pub then_spent : perform f s p t ≡ spent → perform (f then g) s p t ≡ spent
-  then_spent e = perform_then f g s p t ∙ ap (λ (a : Answer T). and_then a (λ x l q. preceded l (perform g x q t))) e
-
   -- from a part that is done the whole goes on
   pub then_done : {x : T} {l : Lists} {q : Place} → perform f s p t ≡ done x l q → perform (f then g) s p t ≡ preceded l (perform g x q t)
   then_done e = perform_then f g s p t ∙ ap (λ (a : Answer T). and_then a (λ x l q. preceded l (perform g x q t))) e
@@ -166,14 +158,6 @@ perform_agree f s p t t' h = rw (enough_agree f.draws p t t' h, block_agree f.dr
 
 -- ---- parts before and after
 
--- a local step first
-pub locally_then : {S T Z : Type 0} (f : S → T) (g : Protocol T Z) (s : S) (p : Place) (t : Tapes) → perform (locally f then g) s p t ≡ perform g (f s) p t
-locally_then f g s p t = then_done (locally f) g s p t (perform-locally f s p t) ∙ nothing_before (perform g (f s) p t)
-  where
-    nothing_before : {Z : Type 0} (a : Answer Z) → preceded silence a ≡ a
-    nothing_before (done x l q) = refl
-    nothing_before spent = refl
-
 pub followed_by_silence : (l : Lists) → l followed_by silence ≡ l
 followed_by_silence l = λ i. lists (append-nil l.one i) (append-nil l.two i) (append-nil l.three i) (append-nil l.controller i)
 
@@ -187,14 +171,6 @@ pub record Performed {S T : Type 0} (f : Protocol S T) (s : S) (p : Place) (t : 
 -- ---- rounds
 
 module _ {S T : Type 0} (f : Protocol S T) (g : ℕ → Protocol T T) (s : S) (p : Place) (t : Tapes) where
-  spent_later : (k j : ℕ) → perform (repeated f g k) s p t ≡ spent → perform (repeated f g (k + j)) s p t ≡ spent
-  spent_later k zero e = rw (add-zero k) e
-  spent_later k (suc j) e = rw (add-suc k j) (then_spent (repeated f g (k + j)) (g (k + j)) s p t (spent_later k j e))
-
-  -- spent after k rounds, spent after more
-  pub rounds-spent : (n k : ℕ) → k ≤ n → perform (repeated f g k) s p t ≡ spent → perform (repeated f g n) s p t ≡ spent
-  rounds-spent n k h e = let m : k + (n - k) ≡ n = omega arith in rw m at (spent_later k (n - k) e)
-
   module _ (k : ℕ) {l₀ l : Lists} {h : T} {n : Received} {q : Place} (d : Performed (repeated f g k) s p t l₀ h l n q) where
     pub round-done : {x : T} (w : Lists) {q' : Place} → perform (g k) h q t ≡ done x w q' → (l' : Lists) → l' ≡ puts n l w
         → (j : Received) → ((r : Receiver) → due r n + length (list r w) ≡ due r j) → Performed (repeated f g (k + 1)) s p t l₀ x l' j q'
@@ -210,9 +186,6 @@ module _ {S T : Type 0} (f : Protocol S T) (g : ℕ → Protocol T T) (s : S) (p
         longer (miner two) = omega (arith, length-append d.words.two w.two, d.long (miner two), c (miner two))
         longer (miner three) = omega (arith, length-append d.words.three w.three, d.long (miner three), c (miner three))
         longer controller = omega (arith, length-append d.words.controller w.controller, d.long controller, c controller)
-
-    pub round-spent : perform (g k) h q t ≡ spent → perform (repeated f g (k + 1)) s p t ≡ spent
-    round-spent e = rw add-one (then_done (repeated f g k) (g k) s p t d.is ∙ rw e)
 
 -- ---- deliveries
 

@@ -1,6 +1,8 @@
--- `machine::command::command` meets its contract: it is a run of one.
-use Rattle.machine.proofs.Laws.RunTurns.{run-one}
+-- `machine::command::command` meets its contract.
+use Rattle.std.proofs.Common.{sym, ◌∙◌}
+use Rattle.machine.proofs.Laws.RunTurns.{refused_unsound}
 use Rattle.machine.proofs.command.command.Goals as goal
 
-pub returns-clause-done : goal.returns-clause-done
-returns-clause-done c = run-one c.args.c.code c.args.c.a c.args.c.b c.args.place _ _ c.run-run.ensures.done
+pub returns-then-not-is_lent_soundly-clause-done : goal.returns-then-not-is_lent_soundly-clause-done
+returns-then-not-is_lent_soundly-clause-done c =
+    rw c.of.ensures (sym (refused_unsound 5 c.args.c c.args.place _ (sym c.is_lent_soundly.ensures ∙ c.if-not-is_lent_soundly.true)))

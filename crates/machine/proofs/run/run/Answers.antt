@@ -5,5 +5,5 @@ use Rattle.machine.proofs.run.run.Goals as goal
 
 pub returns-then-unsound-clause-done : goal.returns-then-unsound-clause-done
 returns-then-unsound-clause-done c =
-    run_refused_first c.args.start _ (rw (c.sizes-sizes.ensures, c.kinds.ensures) at (sym c.is_sound-unsound.ensures ∙ c.if-unsound.true))
+    run_refused_first c.args.start _ (sym c.is_lent_soundly-unsound.ensures ∙ c.if-unsound.true)
     c.args.commands.now c.refuse_first.result c.refuse_first.ensures

@@ -1,10 +1,9 @@
--- `protocols::bits::round_p` meets its contract.
+-- `protocols::bits::clear` meets its contract.
 use Rattle.std.proofs.Common.{◌≡◌, ℕ, ◌<◌, [], ◌∷◌, slice_index_or, refl}
 use Rattle.protocols.specs.Word.{of_bits, bit_at}
-use Rattle.protocols.specs.WordForm.{clear, word_p}
+use Rattle.protocols.specs.WordForm.{clear}
 use Rattle.protocols.proofs.Laws.Rounds.{each_round}
-use Rattle.protocols.proofs.Laws.WordForm.{word_forms}
-use Rattle.protocols.proofs.bits.round_p.Goals as goal
+use Rattle.protocols.proofs.bits.clear.Goals as goal
 
 -- the table lists the positions whose bit k is clear
 listed : (k : ℕ) → k < 5 → slice_index_or (1431655765 ∷ 858993459 ∷ 252645135 ∷ 16711935 ∷ 65535 ∷ []) k 0 ≡ clear 5 k
@@ -12,7 +11,4 @@ unfolding clear of_bits bit_at
 listed = each_round _ refl refl refl refl refl
 
 pub returns : goal.returns
-unfolding word_p
-returns c =
-    rw (listed c.args.round.k c.args.round.below, c.and_share.ensures, c.spread.ensures, c.spread-2.ensures)
-    ((word_forms 5 c.args.round.k c.args.round.below).form_p c.args.p c.args.x)
+returns c = rw (listed c.args.round.k c.args.round.below)

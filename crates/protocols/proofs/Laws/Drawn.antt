@@ -1,0 +1,266 @@
+-- Protocols on the words that they draw, all at once.
+use Rattle.std.specs.Prelude.{Option, Some, None}
+use Rattle.std.proofs.Common.{◌≡◌, ℕ, ◌+◌, ◌*◌, ◌<◌, ◌≤◌, Bool, true, false, cond, List, [], ◌∷◌, ◌++◌, length, get_or, take, drop, take_all, sym, refl, ap, ◌∙◌, arith, length-drop, drop_of_length-le, get_or-drop, add-zero}
+use lib.Seq.{length-sets}
+use Rattle.protocols.specs.declared.place.Party.TheVariants.{Provider, One, Two, Three}
+use Rattle.protocols.specs.declared.bits.Held.{Held}
+use Rattle.protocols.specs.declared.equal.Folding.{Folding}
+use Rattle.protocols.specs.declared.place.Drawn.{Drawn}
+use Rattle.protocols.specs.declared.place.Place.{Place}
+use Rattle.protocols.specs.declared.place.Received.{Received}
+use Rattle.protocols.specs.declared.shares.Shares.{Shares}
+use Rattle.protocols.specs.Word.{width, modulus}
+use Rattle.protocols.specs.Shares.{one, two, three, Operands}
+use Rattle.protocols.specs.Place.{Tapes, tapes, Lists, lists, Receiver, miner, controller, list, word, advance, counts, draw, draw_case, tape_number, enough, block, cut, rest, ◌followed_by◌, to_next, to_two_three}
+use Rattle.protocols.specs.Counts.{received, plus_received, due}
+use Rattle.protocols.specs.Draws.{draw_each, draw_pairs, draw_block}
+use Rattle.protocols.specs.Lent.{Block, words_at}
+use Rattle.protocols.specs.Protocol.{Protocol, ◌then◌, Answer, done, spent, perform}
+use Rattle.protocols.specs.Outcome.{finished, refused, delivered, delivery, fronts, puts}
+use Rattle.protocols.specs.Masked.{masked}
+use Rattle.protocols.specs.Bit.{bit}
+use Rattle.protocols.specs.Bits.{deal, begun, carried, rounds, bits}
+use Rattle.protocols.specs.Equal.{compare, begin, folded, fold, folds, equal}
+use Rattle.protocols.specs.Local.{difference}
+use Rattle.protocols.specs.Below.{below}
+use Rattle.protocols.proofs.Laws.Blocks.{tapes_ext}
+use Rattle.protocols.proofs.Laws.Puts.{tail_sets}
+use Rattle.protocols.proofs.Laws.Deliveries.{fronts_puts, words_lack}
+use Rattle.protocols.proofs.Laws.Draws.{enough_true, draw_some, block-first, block-word}
+use Rattle.protocols.proofs.Laws.Counts.{table_at_32}
+use Rattle.protocols.proofs.Laws.Perform.{Performed, performs, delivery-done}
+use Rattle.protocols.proofs.Laws.Lent.{of_one, sent_before, folded_before, rounds-begun, rounds_more, folds-begun, folds_more}
+
+-- ---- a block is drawn, or a tape is spent
+
+module _ (n : Drawn) (p : Place) (t : Tapes) where
+  by_enough : {w : Tapes} {q : Place} (e : Bool) → draw_case (tape_number e) (block n p t) (advance p n) ≡ Some (w, q) → (e ≡ true) × (w ≡ block n p t) × (q ≡ advance p n)
+  by_enough {w} {q} true z = (refl, sym (ap block_of z), sym (ap place_of z))
+    where
+      block_of : Option (Tapes × Place) → Tapes
+      block_of (Some (v, r)) = v
+      block_of None = w
+
+      place_of : Option (Tapes × Place) → Place
+      place_of (Some (v, r)) = r
+      place_of None = q
+  by_enough false z = absurd (omega (arith, ap number z))
+    where
+      number : Option (Tapes × Place) → ℕ
+      number (Some x) = 0
+      number None = 1
+
+  pub block_drawn : {w : Tapes} {q : Place} → draw_block n p t ≡ Some (w, q) → (enough n p t ≡ true) × (w ≡ block n p t) × (q ≡ advance p n)
+  unfolding draw_block
+  block_drawn z = by_enough (enough n p t) z
+
+  spent_by : (e : Bool) → draw_case {T = Tapes} (tape_number e) (block n p t) (advance p n) ≡ None → e ≡ false
+  spent_by false z = refl
+  spent_by true z = absurd (omega (arith, ap number z))
+    where
+      number : Option (Tapes × Place) → ℕ
+      number (Some x) = 0
+      number None = 1
+
+  pub block_spent : draw_block n p t ≡ None → enough n p t ≡ false
+  unfolding draw_block
+  block_spent z = spent_by (enough n p t) z
+
+-- what a protocol delivers of a drawn block
+module _ {S : Type 0} (f : Protocol S Shares) (n : Drawn) (draws : f.draws ≡ n) (s : S) (p : Place) (t : Tapes) where
+  pub delivery_spent : draw_block n p t ≡ None → (l : Lists) → delivered (refused 12 p) l ≡ delivery p (perform f s p t) l
+  delivery_spent z l = words_lack f n draws s p t l (block_spent n p t z)
+
+  pub delivery_drawn : {w : Tapes} {q : Place} → draw_block n p t ≡ Some (w, q) → (k : Received) → ((s : S) (b : Tapes) (r : Receiver) → length (list r (f.received s b)) ≡ due r k)
+      → {l₀ l : Lists} {x : Shares} → ((r : Receiver) → due r k ≤ length (list r l₀)) → (x ≡ f.result s w) × (l ≡ fronts l₀ (f.received s w))
+      → delivered (finished x q) l ≡ delivery p (perform f s p t) l₀
+  delivery_drawn {w} {q} z k long {l₀} {l} {x} room h =
+      let d = block_drawn n p t z in
+      let v : block f.draws p t ≡ w = ap (λ (m : Drawn). block m p t) draws ∙ sym d.1 in
+      let g : advance p f.draws ≡ q = ap (advance p) draws ∙ sym d.2 in
+      let is : perform f s p t ≡ done x (f.received s w) q = performs f s p t (rw draws d.0) ∙ cc (v, g, h.0) in
+      let made : Performed f s p t l₀ x l k q = record { words = f.received s w; is = is; are = h.1; long = long s w } in
+      delivery-done f s p t made room
+
+-- ---- on a block of words: tapes of these words alone, from their start
+
+-- the place before a block; after j words of miner 1's tape and k of each other's
+abbrev pub within : ℕ → ℕ → Place
+within j k = record { handles = 0; inputs = 0; drawn = counts 0 j k k; received = received 0 0 0 0 }
+
+first_three : (l : List ℕ) → 3 ≤ length l → take 3 l ≡ get_or l 0 0 ∷ get_or l 1 0 ∷ get_or l 2 0 ∷ []
+first_three [] h = absurd (omega (arith, h))
+first_three (x ∷ []) h = absurd (omega (arith, h))
+first_three (x ∷ y ∷ []) h = absurd (omega (arith, h))
+first_three (x ∷ y ∷ z ∷ l) h = refl
+
+first_one : (l : List ℕ) → 1 ≤ length l → take 1 l ≡ get_or l 0 0 ∷ []
+first_one [] h = absurd (omega (arith, h))
+first_one (x ∷ l) h = refl
+
+module _ (w : Tapes) where
+  pub block-one : 1 ≤ length w.one → draw 1 One w.one (within 0 0) ≡ Some (word w one 0 ∷ [], within 1 0)
+  block-one h = draw_some 1 One w.one (within 0 0) h ∙ rw (first_one w.one h)
+
+  pub block-three : 3 ≤ length w.one → draw 3 One w.one (within 0 0) ≡ Some (word w one 0 ∷ word w one 1 ∷ word w one 2 ∷ [], within 3 0)
+  block-three h = draw_some 3 One w.one (within 0 0) h ∙ rw (first_three w.one h)
+
+  module _ (j k : ℕ) where
+    enough_here : (n : ℕ) → j + n ≤ length w.one → k + n ≤ length w.two → k + n ≤ length w.three → enough (counts 0 n n n) (within j k) w ≡ true
+    enough_here n a b c = enough_true (counts 0 n n n) (within j k) w (elim [ Provider ↦ omega arith | One ↦ omega (arith, a) | Two ↦ omega (arith, b) | Three ↦ omega (arith, c) ])
+
+    pub block-each : j + 1 ≤ length w.one → k + 1 ≤ length w.two → k + 1 ≤ length w.three
+        → draw_each (within j k) w ≡ Some (words_at w j k, within (j + 1) (k + 1))
+    unfolding draw_each block
+    block-each a b c = rw (enough_here 1 a b c)
+        (cc (block-first 1 j w.one (omega arith), block-first 1 k w.two (omega arith), block-first 1 k w.three (omega arith)))
+
+    pub block-pairs : j + 2 ≤ length w.one → k + 2 ≤ length w.two → k + 2 ≤ length w.three
+        → draw_pairs (within j k) w ≡ Some ((words_at w j k, words_at w (j + 1) (k + 1)), within (j + 2) (k + 2))
+    unfolding draw_pairs block
+    block-pairs a b c = rw (enough_here 2 a b c)
+        (cc (
+          block-first 2 j w.one (omega arith),
+          block-first 2 k w.two (omega arith),
+          block-first 2 k w.three (omega arith),
+          block-word 2 j 1 w.one (omega arith),
+          block-word 2 k 1 w.two (omega arith),
+          block-word 2 k 1 w.three (omega arith),
+        ))
+
+-- a block of exactly the words that are drawn
+pub block-whole : (a b c : ℕ) (w : Tapes) → Block a b c w → block (counts 0 a b c) (within 0 0) w ≡ w
+unfolding block
+block-whole a b c w h = tapes_ext (block (counts 0 a b c) (within 0 0) w) w
+    (elim [ Provider ↦ sym h.0 | One ↦ take_all a w.one (omega (arith, h.1)) | Two ↦ take_all b w.two (omega (arith, h.2)) | Three ↦ take_all c w.three (omega (arith, h.3)) ])
+
+-- what is performed on it
+pub block-done : {S T : Type 0} (f : Protocol S T) (s : S) (w : Tapes) {l₀ l : Lists} {x : T} {k : Received} {q : Place} → block f.draws (within 0 0) w ≡ w
+    → Performed f s (within 0 0) w l₀ x l k q → (x ≡ f.result s w) × (l ≡ fronts l₀ (f.received s w))
+unfolding perform
+block-done {T = T} f s w {l₀} {l} {x} {q = q} e d = go (enough f.draws (within 0 0) w) (rw e at d.is)
+  where
+    made : Answer T → T
+    made (done y m q) = y
+    made spent = x
+
+    sent : Answer T → Lists
+    sent (done y m q) = m
+    sent spent = d.words
+
+    number : Answer T → ℕ
+    number (done y m q) = 0
+    number spent = 1
+
+    go : (i : Bool) → cond i (done (f.result s w) (f.received s w) (advance (within 0 0) f.draws)) spent ≡ done x d.words q → (x ≡ f.result s w) × (l ≡ fronts l₀ (f.received s w))
+    go true z = (sym (ap made z), d.are ∙ ap (fronts l₀) (sym (ap sent z)))
+    go false z = absurd (omega (arith, ap number z))
+
+-- Bits, on the words that it draws
+-- the dealing and k rounds
+abbrev pub Carried : Shares → Tapes → Lists → ℕ → Held → Lists → Type 0
+Carried u w l₀ k h l = Performed (rounds 5 k) u (within 0 0) w l₀ h l (sent_before k) (within (5 + 2 * k) (2 + 2 * k))
+
+module _ (u : Shares) (w : Tapes) (long : Block 15 12 12 w) (l₀ : Lists) where
+  pub dealt_of : (a b : Shares) → a ≡ words_at w 3 0 → b ≡ words_at w 4 1
+      → let v = of_one (word w one 0 ∷ word w one 1 ∷ word w one 2 ∷ []) in let d = (deal 5).result u v in
+      (l : Lists) (h : Held) → (h ≡ begun d a b) × (l ≡ fronts l₀ ((deal 5).received u v followed_by to_next a followed_by to_next b followed_by to_two_three d.v3 d.v2)) → Carried u w l₀ 0 h l
+  dealt_of a b e f l h =
+      rounds-begun 5 u (within 0 0) w (block-three w (omega (arith, long.1))) a b {p₂ = within 5 2}
+      (block-pairs w 3 0 (omega (arith, long.1)) (omega (arith, long.2)) (omega (arith, long.3)) ∙ rw (e, f)) l₀ l h
+
+  pub carried_of : (k : ℕ) → k < 5 → {h : Held} {l : Lists} → Carried u w l₀ k h l → (a b : Shares) → a ≡ words_at w (5 + 2 * k) (2 + 2 * k) → b ≡ words_at w (5 + 2 * k + 1) (2 + 2 * k + 1)
+      → let x = masked h.p h.q in let y = masked h.s h.t in
+      (l' : Lists) (h' : Held) → (h' ≡ carried (width 5) k x y a b h.base) × (l' ≡ puts (sent_before k) l (to_next x followed_by to_next y followed_by to_next a followed_by to_next b))
+      → Carried u w l₀ (k + 1) h' l'
+  carried_of k less d a b e f l' h' z =
+      let i : 5 + 2 * k + 2 ≡ 5 + 2 * (k + 1) = omega arith in
+      let j : 2 + 2 * k + 2 ≡ 2 + 2 * (k + 1) = omega arith in
+      rounds_more 5 u (within 0 0) w k d a b {q' = within (5 + 2 * (k + 1)) (2 + 2 * (k + 1))}
+      (block-pairs w (5 + 2 * k) (2 + 2 * k) (omega (arith, long.1, less)) (omega (arith, long.2, less)) (omega (arith, long.3, less)) ∙ rw (e, f, i, j)) l' h' z
+
+-- Equal up to its folds, on the words that they draw
+-- the comparison and k folds
+abbrev pub Folded : Operands → Tapes → Lists → ℕ → Folding → Lists → Type 0
+Folded x w l₀ k h l = Performed (folds 5 k) x (within 0 0) w l₀ h l (folded_before k) (within (2 + k) (1 + k))
+
+module _ (x : Operands) (w : Tapes) (long : Block 7 6 6 w) (l₀ : Lists) where
+  pub compared_of : (a : Shares) → a ≡ words_at w 1 0
+      → let v = of_one (word w one 0 ∷ []) in
+      (l : Lists) (h : Folding) → (h.p ≡ (compare 5).result x v) × (h.q ≡ a) × (l ≡ fronts l₀ ((compare 5).received x v followed_by to_next a)) → Folded x w l₀ 0 h l
+  compared_of a e l h z =
+      folds-begun 5 x (within 0 0) w (block-one w (omega (arith, long.1))) a {p₂ = within 2 1}
+      (block-each w 1 0 (omega (arith, long.1)) (omega (arith, long.2)) (omega (arith, long.3)) ∙ rw e) l₀ l h z
+
+  pub folded_of : (k : ℕ) → k < 5 → {h : Folding} {l : Lists} → Folded x w l₀ k h l → (a : Shares) → a ≡ words_at w (1 + (1 + k)) (1 + k)
+      → let y = masked h.p h.q in
+      (l' : Lists) (h' : Folding) → (h' ≡ folded (width 5) k y a) × (l' ≡ puts (folded_before k) l (to_next y followed_by to_next a)) → Folded x w l₀ (k + 1) h' l'
+  folded_of k less d a e l' h' z =
+      let i : 1 + (1 + k) ≡ 2 + k = omega arith in
+      let j : 2 + k + 1 ≡ 2 + (k + 1) = omega arith in
+      let m : 1 + k + 1 ≡ 1 + (k + 1) = omega arith in
+      folds_more 5 x (within 0 0) w k d a {q' = within (2 + (k + 1)) (1 + (k + 1))}
+      (block-each w (2 + k) (1 + k) (omega (arith, long.1, less)) (omega (arith, long.2, less)) (omega (arith, long.3, less)) ∙ rw (e, i, j, m)) l' h' z
+
+-- ---- Bit as the last part: on the last three words of miner 1's, and on the tails of lists 2 and 3
+
+module _ (m j : ℕ) (l₀ l : Lists) (w : Lists) (k : Received) (long : (r : Receiver) → length (list r w) ≡ due r k) (are : l ≡ fronts l₀ w)
+    (room : (r : Receiver) → due r (plus_received k (received 0 3 3 0)) ≤ length (list r l₀)) where
+  pub bit_behind : (y : Shares) (v : Tapes) {a b : List ℕ} → lists [] a b [] ≡ fronts (lists [] (drop k.two l.two) (drop k.three l.three) []) ((bit m j).received y v)
+      → lists l.one (take k.two l.two ++ a) (take k.three l.three ++ b) l.controller ≡ fronts l₀ (w followed_by (bit m j).received y v)
+  unfolding bit
+  bit_behind y v {a} {b} h =
+      let w' = (bit m j).received y v in
+      let long_two : length l.two ≡ length l₀.two = ap (λ (x : Lists). length x.two) are ∙ length-sets l₀.two 0 w.two in
+      let long_three : length l.three ≡ length l₀.three = ap (λ (x : Lists). length x.three) are ∙ length-sets l₀.three 0 w.three in
+      ap (λ (x : Lists). lists l.one (take k.two l.two ++ x.two) (take k.three l.three ++ x.three) l.controller) h
+      ∙ (λ i. lists l.one (tail_sets l.two w'.two k.two (omega (arith, long_two, room (miner two))) i)
+      (tail_sets l.three w'.three k.three (omega (arith, long_three, room (miner three))) i) l.controller)
+      ∙ ap (λ (x : Lists). puts k x w') are
+      ∙ fronts_puts l₀ w w' k long
+
+-- of a block, the first j words of miner 1's with all of the others'; and the last three of miner 1's
+abbrev pub first_words : ℕ → Tapes → Tapes
+first_words j w = tapes [] (take j w.one) w.two w.three
+
+abbrev pub last_words : ℕ → Tapes → Tapes
+last_words j w = of_one (word w one j ∷ word w one (j + 1) ∷ word w one (j + 2) ∷ [])
+
+last_three : (j : ℕ) (l : List ℕ) → length l ≡ j + 3 → drop j l ≡ get_or l j 0 ∷ get_or l (j + 1) 0 ∷ get_or l (j + 2) 0 ∷ []
+last_three j l h =
+    let n : length (drop j l) ≡ 3 = length-drop j l ∙ omega (arith, h) in
+    sym (take_all 3 (drop j l) (omega (arith, n))) ∙ first_three (drop j l) (omega (arith, n))
+    ∙ rw (get_or-drop j l 0 0, get_or-drop j l 1 0, get_or-drop j l 2 0, add-zero)
+
+module _ (j k : ℕ) (w : Tapes) (long : Block (j + 3) k k w) where
+  first_cut : cut (counts 0 j k k) w ≡ first_words j w
+  first_cut = tapes_ext _ _ (elim [ Provider ↦ refl | One ↦ refl | Two ↦ take_all k w.two (omega (arith, long.2)) | Three ↦ take_all k w.three (omega (arith, long.3)) ])
+
+  last_rest : rest (counts 0 j k k) w ≡ last_words j w
+  last_rest = tapes_ext _ _ (elim [
+    | Provider ↦ long.0
+    | One ↦ last_three j w.one long.1
+    | Two ↦ drop_of_length-le w.two {i = k} (omega (arith, long.2))
+    | Three ↦ drop_of_length-le w.three {i = k} (omega (arith, long.3))
+  ])
+
+pub folds_draw : (folds 5 5).draws ≡ counts 0 7 6 6
+unfolding folds compare begin fold ◌then◌
+folds_draw = refl
+
+pub folds_long : (x : Operands) (w : Tapes) (r : Receiver) → length (list r ((folds 5 5).received x w)) ≡ due r (received 11 12 12 0)
+unfolding folds compare begin fold ◌then◌
+folds_long x w = elim [ miner one ↦ refl | miner two ↦ refl | miner three ↦ refl | controller ↦ refl ]
+
+module _ (x : Operands) (w : Tapes) where
+  pub below_parts : Block 18 12 12 w → let y = (bits 5).result (difference (modulus 5) x) (first_words 15 w) in
+      ((below 5).result x w ≡ (bit (modulus 5) 31).result y (last_words 15 w))
+      × ((below 5).received x w ≡ (bits 5).received (difference (modulus 5) x) (first_words 15 w) followed_by (bit (modulus 5) 31).received y (last_words 15 w))
+  unfolding below ◌then◌
+  below_parts h = rw (table_at_32.bits_row.drawn, first_cut 15 12 w h, last_rest 15 12 w h) (refl, refl)
+
+  pub equal_parts : Block 10 6 6 w → let y = ((folds 5 5).result x (first_words 7 w)).p in
+      ((equal 5).result x w ≡ (bit (modulus 5) 0).result y (last_words 7 w))
+      × ((equal 5).received x w ≡ (folds 5 5).received x (first_words 7 w) followed_by (bit (modulus 5) 0).received y (last_words 7 w))
+  unfolding equal ◌then◌
+  equal_parts h = rw (folds_draw, first_cut 7 6 w h, last_rest 7 6 w h) (refl, refl)

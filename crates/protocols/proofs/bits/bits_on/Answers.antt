@@ -1,0 +1,33 @@
+-- `protocols::bits::bits_on` meets its contract.
+use Rattle.std.proofs.Common.{◌∙◌, [], sym, ap}
+use Rattle.protocols.specs.Place.{lists, counts}
+use Rattle.protocols.specs.Counts.{received}
+use Rattle.protocols.specs.Lent.{tapes_of, drawn_block}
+use Rattle.protocols.specs.Bits.{bits}
+use Rattle.protocols.proofs.Laws.Deliveries.{room_lacks, due_fits}
+use Rattle.protocols.proofs.Laws.Lent.{rooms}
+use Rattle.protocols.proofs.Laws.Drawn.{delivery_spent, delivery_drawn, block_drawn}
+use Rattle.protocols.proofs.Laws.Counts.{table_at_32}
+use Rattle.protocols.proofs.bits.bits_on.Goals as goal
+
+pub returns-in_default : goal.returns-in_default
+returns-in_default c =
+    let a = c.args in
+    delivery_spent (bits 5) (counts 0 15 12 12) table_at_32.bits_row.drawn a.u a.place (tapes_of a.tapes)
+    (sym c.draw_block.ensures ∙ ap drawn_block c.in_default.is) (lists a.one.now a.two.now a.three.now [])
+
+pub returns-then-not-have_room : goal.returns-then-not-have_room
+returns-then-not-have_room c =
+    let a = c.args in
+    let d = block_drawn _ _ _ (sym c.draw_block.ensures ∙ ap drawn_block c.in-Some.is) in
+    room_lacks (bits 5) (counts 0 15 12 12) table_at_32.bits_row.drawn a.u a.place (tapes_of a.tapes) (lists a.one.now a.two.now a.three.now [])
+    (received 22 25 25 0) table_at_32.bits_row.long d.0 (cc)
+
+pub returns : goal.returns
+returns c =
+    let a = c.args in
+    let l = lists a.one.now a.two.now a.three.now [] in
+    let long = table_at_32.bits_row.long in
+    delivery_drawn (bits 5) (counts 0 15 12 12) table_at_32.bits_row.drawn a.u a.place (tapes_of a.tapes)
+    (sym c.draw_block.ensures ∙ ap drawn_block c.in-Some.is) (received 22 25 25 0) long (due_fits 22 25 25 l (rooms 22 25 25 l (cc)))
+    c.rounds_on.ensures
