@@ -1,4 +1,4 @@
--- What a command works on, as values and as the code holds it. (01, The commands: 'the next input', handles a and b)
+-- What a command works on, as values and as the code holds it. (01, The commands: 'next input', handles a and b)
 use Rattle.std.specs.Prelude.{ℕ, get_or}
 use Rattle.protocols.specs.declared.shares.Shares.{Shares}
 use Rattle.machine.specs.declared.given.Given as code

@@ -9,12 +9,9 @@ use super::answer::Answer;
 use super::code::Command;
 use super::lent::Tables;
 use super::refusal::Refusal;
-use super::step;
+use super::{caller, step};
 use protocols::lent::{Lists, Tapes};
 use protocols::place::Place;
-
-// Among the callers of a step.
-const SINGLE: usize = 0;
 
 // Number 4, or a step.
 pub fn command(
@@ -32,6 +29,6 @@ pub fn command(
     if !step::is_lent_soundly(place, tables, inputs, tapes, lists) {
         return Answer::of(place, Err(Refusal::LentUnsoundly));
     }
-    let answered = step::step::<SINGLE>(c, place, tables, inputs, tapes, lists);
+    let answered = step::step::<{ caller::COMMAND }>(c, place, tables, inputs, tapes, lists);
     Answer::of(place, answered)
 }

@@ -23,7 +23,8 @@ pub struct Given<'a, 'b, 'c> {
 
 impl<'a, 'b, 'c> Given<'a, 'b, 'c> {
     pub fn of(c: Command, p: Place, tables: &'a Tables<'b>, inputs: &'c [u32]) -> Given<'a, 'b, 'c>
-        ensures { given_of result ≡ given (tables_of tables.now) inputs.now p c }
+        ensures same { (result.tables.now ≡ tables.now) × (result.inputs.now ≡ inputs.now) × (result.used ≡ p.inputs) × (result.a ≡ c.a) × (result.b ≡ c.b) }
+        ensures given { given_of result ≡ given (tables_of tables.now) inputs.now p c }
     {
         Given {
             tables,

@@ -3,6 +3,7 @@
 
 mod accept;
 pub mod answer;
+mod caller;
 pub mod code;
 pub mod command;
 mod entry;

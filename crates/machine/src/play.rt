@@ -9,6 +9,7 @@ ghost use Rattle.machine.specs.Given.{given_of};
 ghost use Rattle.machine.specs.declared.code.Code.TheVariants as variant;
 ghost use Rattle.machine.specs.Accept as spec;
 
+use super::caller;
 use super::code::Code;
 use super::given::Given;
 use protocols::lent::{Lists, Tapes};
@@ -17,8 +18,8 @@ use protocols::place::Place;
 use protocols::shares::Shares;
 use protocols::{below, bit, bits, equal, local, multiply, open, reshare, store};
 
-// What the miners make alone, each from its own shares, unless the command has a joint protocol. (A match, as in `play`, with every command
-// named: one that is added is not forgotten.)
+// What the miners make alone, each from its own shares, unless the command has a joint protocol. (A match, as in `play_jointly`, with every
+// command named: one that is added is not forgotten.)
 #[inline(always)]
 pub(crate) fn make_alone(code: Code, b: u32, g: &Given) -> Option<Shares>
     ensures { result ≡ spec.alone code b (given_of g.now) }
@@ -96,9 +97,6 @@ pub(crate) fn play_jointly<const CALLER: usize>(
     }
 }
 
-// Among the callers of a protocol: no step.
-const ALONE: usize = 2;
-
 // The protocol of any command.
 #[tactic(auto, using(crate::proofs::Laws::Play::made_alone), unfolding(crate::specs::Steps::protocol))]
 pub fn play(
@@ -115,5 +113,5 @@ pub fn play(
     if let Some(shares) = make_alone(code, b, g) {
         return Ok(Done { shares, place: p });
     }
-    play_jointly::<ALONE>(code, b, g, p, tapes, lists)
+    play_jointly::<{ caller::PLAY }>(code, b, g, p, tapes, lists)
 }

@@ -10,12 +10,9 @@ use super::answer::{Accepted, Answer, Run};
 use super::code::Command;
 use super::lent::Tables;
 use super::refusal::Refusal;
-use super::step;
+use super::{caller, step};
 use protocols::lent::{Lists, Tapes};
 use protocols::place::Place;
-
-// Among the callers of a step.
-const RUN: usize = 1;
 
 // Number 4 refuses the first command, if there is one.
 fn refuse_first(words: usize, start: Place) -> Run
@@ -56,7 +53,7 @@ fn run_soundly(
     let (each, _) = commands.as_chunks::<3>();
     for (done, words) in each.iter().enumerate() {
         let [code, a, b] = *words;
-        let answered = step::step::<RUN>(
+        let answered = step::step::<{ caller::RUN }>(
             Command { code, a, b },
             last.place,
             tables,

@@ -40,8 +40,7 @@ pub(crate) fn is_lent_soundly(
     judge::is_sound(place, sizes, tables.kinds())
 }
 
-// Judge, then compute and write; a refused command writes nothing. (CALLER tells the command call from the run: each has a step of its own,
-// which the compiler puts into it.)
+// Judge, then compute and write; a refused command writes nothing. (CALLER: see `caller.rt`.)
 pub(crate) fn step<const CALLER: usize>(
     c: Command,
     place: Place,

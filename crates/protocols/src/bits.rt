@@ -1,5 +1,5 @@
 // Bits.
-ghost use Rattle.std.specs.Prelude.{◌≡◌, ◌+◌, ◌*◌, [], length, bit_and};
+ghost use Rattle.std.specs.Prelude.{◌≡◌, ◌+◌, ◌*◌, [], bit_and};
 ghost use Rattle.protocols.specs.Word.{modulus, width};
 ghost use Rattle.protocols.specs.Shares.{at, each};
 ghost use Rattle.protocols.specs.Place.{tapes, lists, to_next, to_two_three, ◌followed_by◌};
@@ -168,8 +168,8 @@ fn round(round: Round, held: Held, q: Shares, t: Shares, lists: &mut Lists) -> H
     carried(round, p, s, q, t, held.base)
 }
 
-// The dealing and the rounds, on the words drawn: three of miner 1, then two masks of each miner for the dealing and for each round. (The
-// rounds are written out: so each has its masks as constants.)
+// The dealing and the rounds, on the words drawn: three of miner 1, then the masks q and t of each miner for the dealing and for each round.
+// (The rounds are written out: so the entries of `SOURCES` and `CLEAR` and the places of the words are constants.)
 #[inline(always)]
 fn rounds(u: Shares, words: Tapes, lists: &mut Lists) -> Shares
     requires { Block 15 12 12 (tapes_of words) × Room 22 25 25 (lists_of lists.old) }
@@ -192,7 +192,7 @@ fn rounds(u: Shares, words: Tapes, lists: &mut Lists) -> Shares
     joined(held)
 }
 
-// On lists that are lent one by one, since Below lends parts of its own.
+// The same on lists that are lent one by one, as `bits_on` and `below_on` have them.
 #[inline(always)]
 pub(crate) fn rounds_on(
     u: Shares,

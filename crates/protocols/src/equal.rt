@@ -1,5 +1,5 @@
 // Equal.
-ghost use Rattle.std.specs.Prelude.{◌≡◌, ◌+◌, ◌*◌, ◌/◌, ◌^◌, [], length, bit_and};
+ghost use Rattle.std.specs.Prelude.{◌≡◌, ◌+◌, ◌*◌, ◌/◌, ◌^◌, [], bit_and};
 ghost use Rattle.protocols.specs.Word.{modulus, width};
 ghost use Rattle.protocols.specs.Shares.{at, each, operands};
 ghost use Rattle.protocols.specs.Place.{tapes, lists, to_next, ◌followed_by◌};
@@ -34,7 +34,7 @@ static HEADS: [u32; 5] = [
     0x0000_0001,
 ];
 
-// The other positions: a table, since taking the complement in each round is slower.
+// The other positions.
 static OTHERS: [u32; 5] = [
     0xaaaa_aaaa,
     0xeeee_eeee,
@@ -143,7 +143,7 @@ fn folds(u: Shares, v: Shares, words: Tapes, lists: &mut Lists) -> Shares
     held.p
 }
 
-// On lists that are lent one by one.
+// The same on lists that are lent one by one, as `equal_on` has them.
 #[inline(always)]
 fn folds_on(
     u: Shares,

@@ -130,18 +130,6 @@ module _ (cs : List ℕ) (p : Place) (l : Lent) where
       let long : 3 ≤ length cs = omega (arith, h) in
       run_refused_first p l s cs (record { done = 0; last = a }) (refl, rw (le-ltb (length cs) 3 long) e)
 
--- ---- a run of one
-
-one_way : {A : Type 0} (b : Bool) (x : A) → cond b x x ≡ x
-one_way true x = refl
-one_way false x = refl
-
-to_refusal-one : (n : ℕ) (c : Command) (p : Place) (l : Lent) → let o = command n c p l in
-    run_to_refusal n (c ∷ []) p l ≡ before o (ran [] o.answer.place o.lent)
-to_refusal-one n c p l =
-    let o = command n c p l in
-    to_refusal-first n c [] p l ∙ rw to_refusal_none (one_way (eqb o.answer.number 0) (before o (ran [] o.answer.place o.lent)))
-
 -- ---- its last answer
 
 -- after the answer a

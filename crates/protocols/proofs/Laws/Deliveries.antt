@@ -79,8 +79,6 @@ module _ {S : Type 0} (f : Protocol S Shares) (n : Drawn) (drawn : f.draws ≡ n
       let b = block f.draws p t in
       delivery_full f s p t l (rw drawn e) (rw (long s b controller, long s b (miner one), long s b (miner two), long s b (miner three)) g)
 
--- ---- what the code answers, from any place
-
 -- ---- what a delivery is
 
 room_false : (l w : Lists) (r : Receiver) → length (list r l) < length (list r w) → room l w ≡ false
@@ -108,7 +106,7 @@ delivers p l s w q = record {
 
 -- ---- lists that receive nothing
 
-pub nothing : (l : List ℕ) → length l ≡ 0 → l ≡ []
+nothing : (l : List ℕ) → length l ≡ 0 → l ≡ []
 nothing [] e = refl
 nothing (x ∷ l) e = absurd (omega (arith, e))
 

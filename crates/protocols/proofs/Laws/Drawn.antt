@@ -84,7 +84,7 @@ module _ {S : Type 0} (f : Protocol S Shares) (n : Drawn) (draws : f.draws ≡ n
 
 -- ---- on a block of words: tapes of these words alone, from their start
 
--- the place before a block; after j words of miner 1's tape and k of each other's
+-- the place after j words of miner 1's and k of each other's, from the block's start
 abbrev pub within : ℕ → ℕ → Place
 within j k = record { handles = 0; inputs = 0; drawn = counts 0 j k k; received = received 0 0 0 0 }
 

@@ -110,8 +110,6 @@ unfolding fold
 fold_performs n k h p t =
     by_each (λ h r. folded (width n) k (masked h.p h.q) r) (λ h r. to_next (masked h.p h.q) followed_by to_next r) h p t
 
--- ---- what is lent to the first part of a protocol
-
 -- ---- the room of lent lists
 
 pub rooms : (a b c : ℕ) (l : Lists) → holds l (received a b c 0) ≡ true → Room a b c l
