@@ -1,5 +1,5 @@
 -- An accepted command as the code has it: played on the unfilled part of each list, then its entries written. Command.antt is what that comes to.
-use Rattle.std.specs.Prelude.{ℕ, zero, suc, ◌+◌, ◌≤◌, ◌<◌, ◌^◌, List, length, drop, Option, Some, None}
+use Rattle.std.specs.Prelude.{◌≡◌, ℕ, zero, suc, ◌+◌, ◌≤◌, ◌<◌, ◌^◌, List, length, drop, Option, Some, None}
 use Rattle.protocols.specs.declared.place.Place.{Place}
 use Rattle.protocols.specs.declared.place.Received.{Received}
 use Rattle.protocols.specs.declared.shares.Shares.{Shares}
@@ -11,9 +11,12 @@ use Rattle.protocols.specs.Local.{sum, difference, shifted, multiple}
 use Rattle.machine.specs.declared.answer.Answer.{Answer}
 use Rattle.machine.specs.declared.code.Code.{Code}
 use Rattle.machine.specs.declared.code.Code.TheVariants.{Store, Add, Subtract, AddConstant, TimesConstant, Multiply, Reshare, Bits, Bit, Equal, Open, Below}
-use Rattle.machine.specs.Given.{Given}
+use Rattle.machine.specs.declared.given.Given.{Given}
 use Rattle.machine.specs.declared.kind.Kind.{Kind}
 use Rattle.machine.specs.declared.row.Row.{Row}
+use Rattle.machine.specs.declared.row.Use.{Use}
+use Rattle.machine.specs.declared.row.Use.TheVariants.{Unused, Handle, Word, Position}
+use Rattle.machine.specs.declared.code.Command.{Command}
 use Rattle.machine.specs.Table.{kind_number, row}
 use Rattle.machine.specs.declared.lent.Tables as code_tables
 use Rattle.machine.specs.Lent.{Tables, tables_of, Lent}
@@ -29,9 +32,36 @@ pub record Fits (p : Place) (x : Row) : Type 0 where
   pub three : p.received.three + x.received.three < 2 ^ 64
   pub controller : p.received.controller + x.received.controller < 2 ^ 64
 
--- where number 4 and the numbers 6 to 11 do not apply: what the code then does fits the lists
-pub record Begun (x : Code) (p : Place) (l : Lent) : Type 0 where
-  pub entries : p.handles + (row 5 x).values ≤ length l.tables.one
+-- all tables and the kind list have so many entries
+pub record HaveEntries (n : ℕ) (t : Tables) (k : List ℕ) : Type 0 where
+  pub one : n ≤ length t.one
+  pub two : n ≤ length t.two
+  pub three : n ≤ length t.three
+  pub kinds : n ≤ length k
+
+-- every table has an entry of the handle h
+pub record HasEntry (t : Tables) (h : ℕ) : Type 0 where
+  pub counted : 1 ≤ h
+  pub one : h ≤ length t.one
+  pub two : h ≤ length t.two
+  pub three : h ≤ length t.three
+
+-- A, of a field that is a handle; nothing of another
+abbrev pub IfHandle : Use → Type 0 → Type 0
+IfHandle Unused A = Unit {0}
+IfHandle Handle A = A
+IfHandle Word A = Unit {0}
+IfHandle Position A = Unit {0}
+
+-- g serves a command of the row x as h does: it has the same in what the command uses
+abbrev pub Serves : Row → Given → Given → Type 0
+Serves x g h = (¬ (x.inputs ≡ 0) → g.input ≡ h.input) × IfHandle x.a (g.u ≡ h.u) × IfHandle x.b (g.v ≡ h.v)
+
+-- where number 4 and the numbers 6 to 11 do not apply: what the code then reads is there, and what it does fits the lists
+pub record Begun (x : Code) (c : Command) (p : Place) (l : Lent) : Type 0 where
+  pub entries : HaveEntries (p.handles + (row 5 x).values) l.tables l.kinds
+  pub a : IfHandle (row 5 x).a (HasEntry l.tables c.a)
+  pub b : IfHandle (row 5 x).b (HasEntry l.tables c.b)
   pub inputs : p.inputs + (row 5 x).inputs ≤ length l.inputs
   pub one : p.received.one ≤ length l.received.one
   pub two : p.received.two ≤ length l.received.two

@@ -9,7 +9,7 @@ use Rattle.protocols.specs.Place.{Lists, lists, block}
 use Rattle.machine.specs.declared.code.Command.{Command}
 use Rattle.machine.specs.declared.code.Code.{Code}
 use Rattle.machine.specs.declared.row.Row.{Row}
-use Rattle.machine.specs.Given.{Given}
+use Rattle.machine.specs.declared.given.Given.{Given}
 use Rattle.machine.specs.declared.answer.Accepted as code
 use Rattle.machine.specs.declared.answer.Answer.{Answer}
 use Rattle.machine.specs.declared.refusal.Refusal.{Refusal}

@@ -3,7 +3,6 @@ pub mod Table
 pub mod Lent
 pub mod Refusal
 pub mod Verdict
-pub mod Given
 pub mod Steps
 pub mod Command
 pub mod Accept

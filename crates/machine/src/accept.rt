@@ -9,10 +9,9 @@ ghost use Rattle.machine.specs.Lent.{tables_of, lent_of, SameTables, sizes};
 ghost use Rattle.machine.specs.Verdict.{supplied};
 ghost use Rattle.machine.specs.Verdict as verdict;
 ghost use Rattle.machine.specs.Steps.{protocol};
-ghost use Rattle.machine.specs.Given.{given_of};
 ghost use Rattle.machine.specs.Command.{answer, answer_of, decided};
 ghost use Rattle.machine.specs.Command as command;
-ghost use Rattle.machine.specs.Accept.{Begun, Fits, left, stored_of, append, one_more};
+ghost use Rattle.machine.specs.Accept.{Begun, HaveEntries, Fits, left, stored_of, append, one_more};
 ghost use Rattle.machine.specs.Accept as spec;
 
 use super::answer::Accepted;
@@ -63,7 +62,7 @@ fn counted(p: Place, x: Row) -> Place
 // A ring value that the miners made alone becomes the new handle's.
 #[inline(always)]
 fn store_value(shares: Shares, place: Place, tables: &mut Tables) -> Accepted
-    requires { place.handles + 1 < 2 ^ 64 }
+    requires { (place.handles + 1 < 2 ^ 64) × HaveEntries (place.handles + 1) (tables_of tables.old) tables.old.kinds.now }
     ensures same { SameTables tables.old tables.new }
     ensures left { left (answer_of place (Ok result)) (stored_of tables.new) ≡ left (answer 0 (one_more place) 0) (append 1 place.handles shares Kind.RingValue (tables_of tables.old) tables.old.kinds.now) }
 {
@@ -86,7 +85,7 @@ fn finish(
     played: Result<Done, Shortage>,
     tables: &mut Tables,
 ) -> Result<Accepted, Refusal>
-    requires { (outcome place played).number ≡ 0 → Fits (outcome place played).place x }
+    requires { ((outcome place played).number ≡ 0 → Fits (outcome place played).place x) × HaveEntries (place.handles + x.values) (tables_of tables.old) tables.old.kinds.now }
     ensures same { SameTables tables.old tables.new }
     ensures left { left (answer_of place result) (stored_of tables.new) ≡ spec.finish x place (outcome place played) (tables_of tables.old) tables.old.kinds.now }
 {
@@ -100,10 +99,10 @@ fn finish(
 
 // On lists that are lent one by one, as the parts of lent lists are. (The check's borrow rules do not cover a struct of such parts that is
 // made where they are cut.)
-fn play_on<const CALLER: usize>(
+fn play_on<const CALLER: usize, const CODE: usize>(
     code: Code,
     c: Command,
-    g: &Given,
+    g: Given,
     place: Place,
     tapes: &Tapes,
     one: &mut [u32],
@@ -111,8 +110,8 @@ fn play_on<const CALLER: usize>(
     three: &mut [u32],
     controller: &mut [u32],
 ) -> Result<Done, Shortage>
-    requires { spec.alone code c.b (given_of g.now) ≡ None }
-    ensures { delivered (outcome place result) (lists one.new two.new three.new controller.new) ≡ delivery place (perform (protocol 5 code c.b) (given_of g.now) place (tapes_of tapes.now)) (lists one.old two.old three.old controller.old) }
+    requires { spec.alone code c.b g ≡ None }
+    ensures { delivered (outcome place result) (lists one.new two.new three.new controller.new) ≡ delivery place (perform (protocol 5 code c.b) g place (tapes_of tapes.now)) (lists one.old two.old three.old controller.old) }
 {
     let mut lists = Lists {
         one,
@@ -120,11 +119,11 @@ fn play_on<const CALLER: usize>(
         three,
         controller,
     };
-    play::play_jointly::<CALLER>(code, c.b, g, place, tapes, &mut lists)
+    play::play_jointly::<CALLER, CODE>(code, c.b, g, place, tapes, &mut lists)
 }
 
 // The protocol's words go into the unfilled part of each list, its shares become the new handle's.
-pub(crate) fn accept<const CALLER: usize>(
+pub(crate) fn accept<const CALLER: usize, const CODE: usize>(
     code: Code,
     c: Command,
     place: Place,
@@ -133,20 +132,21 @@ pub(crate) fn accept<const CALLER: usize>(
     tapes: &Tapes,
     lists: &mut Lists,
 ) -> Result<Accepted, Refusal>
-    requires { Begun code place (lent_of tables.old inputs.now tapes.now lists.old) }
+    requires { Begun code c place (lent_of tables.old inputs.now tapes.now lists.old) }
     ensures same_tables { SameTables tables.old tables.new }
     ensures same_lists { Same lists.old lists.new }
     ensures decided { let l = lent_of tables.old inputs.now tapes.now lists.old in command.outcome (answer_of place result) (lent_of tables.new inputs.now tapes.now lists.new) ≡ decided 5 (supplied (row 5 code) place (sizes l) (verdict.Accepted code)) c place l }
 {
-    let g = Given::of(c, place, tables, inputs);
-    if let Some(shares) = play::make_alone(code, c.b, &g) {
+    let x = row::of(code);
+    let g = tables.given(x, c, place, inputs);
+    if let Some(shares) = play::make_alone(code, c.b, g) {
         return Ok(store_value(shares, place, tables));
     }
     let at = place.received;
-    let played = play_on::<CALLER>(
+    let played = play_on::<CALLER, CODE>(
         code,
         c,
-        &g,
+        g,
         place,
         tapes,
         &mut lists.one[at.one..],
@@ -154,5 +154,5 @@ pub(crate) fn accept<const CALLER: usize>(
         &mut lists.three[at.three..],
         &mut lists.controller[at.controller..],
     );
-    finish(row::of(code), place, played, tables)
+    finish(x, place, played, tables)
 }

@@ -26,7 +26,8 @@ pub fn command(
     ensures same_lists { Same lists.old lists.new }
     ensures done { outcome result (lent_of tables.new inputs.now tapes.now lists.new) ≡ spec.command 5 c place (lent_of tables.old inputs.now tapes.now lists.old) }
 {
-    if !step::is_lent_soundly(place, tables, inputs, tapes, lists) {
+    let unsound = !step::is_lent_soundly(place, tables, inputs, tapes, lists);
+    if unsound {
         return Answer::of(place, Err(Refusal::LentUnsoundly));
     }
     let answered = step::step::<{ caller::COMMAND }>(c, place, tables, inputs, tapes, lists);

@@ -1,57 +1,47 @@
 // What a command works on.
-ghost use Rattle.std.specs.Prelude.{◌≡◌};
-ghost use Rattle.machine.specs.Lent.{tables_of};
-ghost use Rattle.machine.specs.Given.{given_of};
+ghost use Rattle.std.specs.Prelude.{◌≡◌, ◌+◌, ◌≤◌, length};
+ghost use Rattle.machine.specs.Lent.{shares_at, tables_of};
 ghost use Rattle.machine.specs.Command.{given};
+ghost use Rattle.machine.specs.Accept.{IfHandle, HasEntry, Serves};
 
 use super::code::Command;
-use super::lent;
 use super::lent::Tables;
+use super::row::{Row, Use};
 use protocols::place::Place;
 use protocols::shares::Shares;
 
-// The next input, and the shares of the handles that a and b name: each is read where it is asked for, since most commands take less than
-// all of it.
-#[derive(Clone, Copy, Drop)]
-pub struct Given<'a, 'b, 'c> {
-    pub tables: &'a Tables<'b>,
-    pub inputs: &'c [u32],
-    pub used: usize,
-    pub a: u32,
-    pub b: u32,
+// The next input, and the shares of the handles that a and b name.
+#[derive(Clone, Copy)]
+pub struct Given {
+    pub input: u32,
+    pub u: Shares,
+    pub v: Shares,
 }
 
-impl<'a, 'b, 'c> Given<'a, 'b, 'c> {
-    pub fn of(c: Command, p: Place, tables: &'a Tables<'b>, inputs: &'c [u32]) -> Given<'a, 'b, 'c>
-        ensures same { (result.tables.now ≡ tables.now) × (result.inputs.now ≡ inputs.now) × (result.used ≡ p.inputs) × (result.a ≡ c.a) × (result.b ≡ c.b) }
-        ensures given { given_of result ≡ given (tables_of tables.now) inputs.now p c }
+impl Tables<'_> {
+    // The shares of the handle in a field; where it holds no handle, nothing is read.
+    #[inline(always)]
+    fn operand(&self, field: Use, h: u32) -> Shares
+        requires { IfHandle field (HasEntry (tables_of self.now) h) }
+        ensures { IfHandle field (result ≡ shares_at (tables_of self.now) h) }
     {
-        Given {
-            tables,
-            inputs,
-            used: p.inputs,
-            a: c.a,
-            b: c.b,
+        match field {
+            Use::Handle => self.shares(h),
+            _ => Shares::default(),
         }
     }
 
-    pub fn input(&self) -> u32
-        ensures { result ≡ (given_of self.now).input }
-    {
-        lent::read(self.inputs, self.used)
-    }
-
+    // What a command works on, as far as its row says that it uses it; the rest is 0.
     #[inline(always)]
-    pub fn u(&self) -> Shares
-        ensures { result ≡ (given_of self.now).u }
+    pub(crate) fn given(&self, x: Row, c: Command, p: Place, inputs: &[u32]) -> Given
+        requires { (p.inputs + x.inputs ≤ length inputs.now) × IfHandle x.a (HasEntry (tables_of self.now) c.a) × IfHandle x.b (HasEntry (tables_of self.now) c.b) }
+        ensures { Serves x result (given (tables_of self.now) inputs.now p c) }
     {
-        self.tables.shares(self.a)
-    }
-
-    #[inline(always)]
-    pub fn v(&self) -> Shares
-        ensures { result ≡ (given_of self.now).v }
-    {
-        self.tables.shares(self.b)
+        let input = if x.inputs == 0 { 0 } else { inputs[p.inputs] };
+        Given {
+            input,
+            u: self.operand(x.a, c.a),
+            v: self.operand(x.b, c.b),
+        }
     }
 }

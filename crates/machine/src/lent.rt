@@ -1,9 +1,9 @@
 // What is lent to a command.
-ghost use Rattle.std.specs.Prelude.{◌≡◌, get_or};
+ghost use Rattle.std.specs.Prelude.{◌≡◌};
 ghost use Rattle.protocols.specs.Place.{lists};
 ghost use Rattle.protocols.specs.Lent.{tapes_of};
 ghost use Rattle.machine.specs.Lent.{shares_at, tables, tables_of, lent, sizes};
-ghost use Rattle.machine.specs.Lent as spec;
+ghost use Rattle.machine.specs.Accept.{HasEntry};
 
 use protocols::lent::Tapes;
 use protocols::place::{Drawn, Received};
@@ -21,12 +21,18 @@ pub struct Tables<'a> {
 }
 
 impl Tables<'_> {
-    // The three shares of a handle.
+    // The three shares of a handle, which counts from 1.
     #[inline(always)]
     pub(crate) fn shares(&self, h: u32) -> Shares
+        requires { HasEntry (tables_of self.now) h }
         ensures { result ≡ shares_at (tables_of self.now) h }
     {
-        shares_at(self.one, self.two, self.three, h)
+        let i = h as usize - 1;
+        Shares {
+            one: self.one[i],
+            two: self.two[i],
+            three: self.three[i],
+        }
     }
 
     // The kinds alone, for what may see no share.
@@ -84,30 +90,5 @@ impl Sizes {
                 controller: controller.len(),
             },
         }
-    }
-}
-
-// The word at an index, or 0 past the end.
-pub fn read(list: &[u32], i: usize) -> u32
-    ensures { result ≡ get_or list.now i 0 }
-{
-    list.get(i).copied().unwrap_or(0)
-}
-
-// The entry of a handle, which counts from 1.
-pub fn entry(list: &[u32], h: u32) -> u32
-    ensures { result ≡ spec.entry list.now h }
-{
-    read(list, (h as usize).saturating_sub(1))
-}
-
-// The three shares of a handle, from tables of any lengths.
-pub fn shares_at(one: &[u32], two: &[u32], three: &[u32], h: u32) -> Shares
-    ensures { result ≡ shares_at (tables one.now two.now three.now) h }
-{
-    Shares {
-        one: entry(one, h),
-        two: entry(two, h),
-        three: entry(three, h),
     }
 }

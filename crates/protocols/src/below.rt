@@ -1,7 +1,9 @@
 // Below.
 ghost use Rattle.std.specs.Prelude.{◌≡◌, []};
-ghost use Rattle.protocols.specs.Shares.{operands};
-ghost use Rattle.protocols.specs.Place.{lists};
+ghost use Rattle.protocols.specs.Word.{modulus};
+ghost use Rattle.protocols.specs.Shares.{Operands, operands};
+ghost use Rattle.protocols.specs.Local.{difference};
+ghost use Rattle.protocols.specs.Place.{tapes, lists};
 ghost use Rattle.protocols.specs.Protocol.{perform};
 ghost use Rattle.protocols.specs.Outcome.{outcome, delivered, delivery};
 ghost use Rattle.protocols.specs.Lent.{tapes_of, lists_of, Same};
@@ -13,8 +15,33 @@ use super::place::Place;
 use super::shares::Shares;
 use super::{bit, bits, list, local};
 
-// Below, on lists that are lent one by one. (A call of its own, as Bits is.)
+// The highest bit of d, the difference of the operands, on the words drawn, with room for just the words received. (A call of its own, as
+// that of Bits; of the difference alone, since that is half as many words.)
 #[inline(never)]
+fn on_words(
+    d: Shares,
+    tape1: &[u32; 18],
+    tape2: &[u32; 12],
+    tape3: &[u32; 12],
+    one: &mut [u32; 22],
+    two: &mut [u32; 28],
+    three: &mut [u32; 28],
+) -> Shares
+    ensures { (x : Operands) → d ≡ difference (modulus 5) x → let w = tapes [] tape1.now tape2.now tape3.now in (result ≡ (spec.below 5).result x w) × (lists one.new two.new three.new [] ≡ (spec.below 5).received x w) }
+{
+    let words = Tapes {
+        provider: &[],
+        one: &tape1[..15],
+        two: tape2,
+        three: tape3,
+    };
+    let word = bits::rounds_on(d, words, one, two, three);
+    let bit_words = [tape1[15], tape1[16], tape1[17]];
+    bit::convert(word, 31, &bit_words, &mut two[25..], &mut three[25..])
+}
+
+// Below, on lists that are lent one by one, as Bits.
+#[inline(always)]
 fn below_on(
     u: Shares,
     v: Shares,
@@ -32,16 +59,17 @@ fn below_on(
     if !list::have_room(one, two, three, 22, 28, 28) {
         return Err(Shortage::ListFull);
     }
-    let words = Tapes {
-        provider: &[],
-        one: &tape1[..15],
-        two: tape2,
-        three: tape3,
+    let d = local::difference(u, v);
+    // `have_room` has shown that there is room for so many words.
+    let (Some(one), Some(two), Some(three)) = (
+        one.first_chunk_mut(),
+        two.first_chunk_mut(),
+        three.first_chunk_mut(),
+    ) else {
+        unreachable!();
     };
-    let word = bits::rounds_on(local::difference(u, v), words, one, two, three);
-    let bit_words = [tape1[15], tape1[16], tape1[17]];
     Ok(Done {
-        shares: bit::convert(word, 31, &bit_words, &mut two[25..], &mut three[25..]),
+        shares: on_words(d, tape1, tape2, tape3, one, two, three),
         place: next,
     })
 }

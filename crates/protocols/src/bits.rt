@@ -192,7 +192,7 @@ fn rounds(u: Shares, words: Tapes, lists: &mut Lists) -> Shares
     joined(held)
 }
 
-// The same on lists that are lent one by one, as `bits_on` and `below_on` have them.
+// The same on lists that are lent one by one, as Bits and Below have them.
 #[inline(always)]
 pub(crate) fn rounds_on(
     u: Shares,
@@ -213,9 +213,32 @@ pub(crate) fn rounds_on(
     rounds(u, words, &mut lists)
 }
 
-// Bits, on lists that are lent one by one: so nothing of what its caller holds has to stand in memory. (A call of its own, since it is too
-// long to stand in the run of commands.)
+// Bits on the words drawn, with room for just the words received. (A call of its own, since it is too long to stand in the run of
+// commands; on arrays, so that no length is handed over and no place tested.)
 #[inline(never)]
+fn on_words(
+    u: Shares,
+    tape1: &[u32; 15],
+    tape2: &[u32; 12],
+    tape3: &[u32; 12],
+    one: &mut [u32; 22],
+    two: &mut [u32; 25],
+    three: &mut [u32; 25],
+) -> Shares
+    ensures { let w = tapes [] tape1.now tape2.now tape3.now in (result ≡ (spec.bits 5).result u w) × (lists one.new two.new three.new [] ≡ (spec.bits 5).received u w) }
+{
+    let words = Tapes {
+        provider: &[],
+        one: tape1,
+        two: tape2,
+        three: tape3,
+    };
+    rounds_on(u, words, one, two, three)
+}
+
+// Bits, on lists that are lent one by one. (Of a list within a lent struct the check does not tell what it holds after a part of it was
+// lent on, so this is no part of `bits`.)
+#[inline(always)]
 fn bits_on(
     u: Shares,
     place: Place,
@@ -232,14 +255,16 @@ fn bits_on(
     if !list::have_room(one, two, three, 22, 25, 25) {
         return Err(Shortage::ListFull);
     }
-    let words = Tapes {
-        provider: &[],
-        one: tape1,
-        two: tape2,
-        three: tape3,
+    // `have_room` has shown that there is room for so many words.
+    let (Some(one), Some(two), Some(three)) = (
+        one.first_chunk_mut(),
+        two.first_chunk_mut(),
+        three.first_chunk_mut(),
+    ) else {
+        unreachable!();
     };
     Ok(Done {
-        shares: rounds_on(u, words, one, two, three),
+        shares: on_words(u, tape1, tape2, tape3, one, two, three),
         place: next,
     })
 }

@@ -9,24 +9,6 @@ use super::place::{Party, Place};
 use super::shares::Shares;
 
 impl Place {
-    // A word of each miner's tape.
-    #[tactic(auto, using(crate::proofs::Laws::Draws::each_in_turn))]
-    #[inline(always)]
-    pub fn draw_each(self, tapes: &Tapes) -> Option<(Shares, Place)>
-        ensures { result ≡ draw_each self (tapes_of tapes.now) }
-    {
-        let Some((&[one], place1)) = self.draw::<1>(Party::One, tapes.one) else {
-            return None;
-        };
-        let Some((&[two], place2)) = place1.draw::<1>(Party::Two, tapes.two) else {
-            return None;
-        };
-        let Some((&[three], place3)) = place2.draw::<1>(Party::Three, tapes.three) else {
-            return None;
-        };
-        Some((Shares { one, two, three }, place3))
-    }
-
     // So many words of each miner's tape at once. (Miners 2 and 3 always draw alike.)
     #[tactic(auto, using(crate::proofs::Laws::Draws::block_in_turn))]
     #[inline(always)]
@@ -51,6 +33,18 @@ impl Place {
             return None;
         };
         Some(((one, two, three), place3))
+    }
+
+    // A word of each miner's tape.
+    #[tactic(auto, using(crate::proofs::Laws::Draws::each_of_block))]
+    #[inline(always)]
+    pub fn draw_each(self, tapes: &Tapes) -> Option<(Shares, Place)>
+        ensures { result ≡ draw_each self (tapes_of tapes.now) }
+    {
+        let Some(((&[one], &[two], &[three]), next)) = self.draw_block::<1, 1>(tapes) else {
+            return None;
+        };
+        Some((Shares { one, two, three }, next))
     }
 
     // Two words of each miner's tape: the first ones, the second ones.

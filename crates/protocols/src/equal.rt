@@ -1,7 +1,8 @@
 // Equal.
 ghost use Rattle.std.specs.Prelude.{◌≡◌, ◌+◌, ◌*◌, ◌/◌, ◌^◌, [], bit_and};
 ghost use Rattle.protocols.specs.Word.{modulus, width};
-ghost use Rattle.protocols.specs.Shares.{at, each, operands};
+ghost use Rattle.protocols.specs.Shares.{at, each, Operands, operands};
+ghost use Rattle.protocols.specs.Local.{difference};
 ghost use Rattle.protocols.specs.Place.{tapes, lists, to_next, ◌followed_by◌};
 ghost use Rattle.protocols.specs.Protocol.{perform};
 ghost use Rattle.protocols.specs.Outcome.{outcome, delivered, delivery, fronts, puts};
@@ -43,42 +44,42 @@ static OTHERS: [u32; 5] = [
     0xffff_fffe,
 ];
 
-// The word shifted down to the heads, which take the 'and' with it.
-fn shifted(round: Round, x: u32) -> u32
+// The bits that the heads take the 'and' with, each moved down to its head; 0 at the other positions.
+fn to_heads(round: Round, x: u32) -> u32
     ensures { result ≡ bit_and (x / 2 ^ (2 ^ round.k)) (word.heads 5 round.k) }
 {
     let stride = 1u32 << round.k;
     (x >> stride) & HEADS[round.k as usize]
 }
 
-// A word but for its heads, which are 0.
-fn headless(round: Round, x: u32) -> u32
+// A word's bits at the other positions; 0 at the heads.
+fn others(round: Round, x: u32) -> u32
     ensures { result ≡ bit_and x (word.others 5 round.k) }
 {
     x & OTHERS[round.k as usize]
 }
 
-// Each miner's word, shifted so.
-fn shifted_each(round: Round, x: Shares) -> Shares
+// Each miner's word, moved so.
+fn to_heads_each(round: Round, x: Shares) -> Shares
     ensures { result ≡ each (λ i. bit_and (at i x / 2 ^ (2 ^ round.k)) (word.heads 5 round.k)) }
 {
-    x.map(|x| shifted(round, x))
+    x.map(|x| to_heads(round, x))
 }
 
-// Each miner's word but for its heads.
-fn headless_each(round: Round, x: Shares) -> Shares
+// Each miner's word at the other positions.
+fn others_each(round: Round, x: Shares) -> Shares
     ensures { result ≡ each (λ i. bit_and (at i x) (word.others 5 round.k)) }
 {
-    x.map(|x| headless(round, x))
+    x.map(|x| others(round, x))
 }
 
 // Round k on every miner's masked shares, with the masks of the next round.
 fn folded(round: Round, p: Shares, q: Shares) -> Folding
     ensures { result ≡ spec.folded (width 5) round.k p q }
 {
-    let both = masked::and_shares(p, shifted_each(round, p));
+    let both = masked::and_shares(p, to_heads_each(round, p));
     Folding {
-        p: headless_each(round, p).zip(both, masked::xor),
+        p: others_each(round, p).zip(both, masked::xor),
         q,
     }
 }
@@ -94,16 +95,15 @@ fn compared(d: Shares, r2: u32, r3: u32) -> Shares
     ])
 }
 
-// The comparison, with the masks of the first round sent on.
+// The comparison of d, the difference of the operands, with 0, with the masks of the first round sent on.
 #[tactic(auto, unfolding(crate::specs::Equal::compare))]
-fn compare(u: Shares, v: Shares, words: &[u32; 1], q: Shares, lists: &mut Lists) -> Folding
+fn compare(d: Shares, words: &[u32; 1], q: Shares, lists: &mut Lists) -> Folding
     requires { Room 11 12 12 (lists_of lists.old) }
     ensures same { Same lists.old lists.new }
     ensures room { Room 11 12 12 (lists_of lists.new) }
-    ensures compared { let w = tapes [] words.now [] [] in (result.p ≡ (spec.compare 5).result (operands u v) w) × (result.q ≡ q) × (lists_of lists.new ≡ fronts (lists_of lists.old) ((spec.compare 5).received (operands u v) w followed_by to_next q)) }
+    ensures compared { (x : Operands) → d ≡ difference (modulus 5) x → let w = tapes [] words.now [] [] in (result.p ≡ (spec.compare 5).result x w) × (result.q ≡ q) × (lists_of lists.new ≡ fronts (lists_of lists.old) ((spec.compare 5).received x w followed_by to_next q)) }
 {
     let [r2] = *words;
-    let d = local::difference(u, v);
     let r3 = ring::sub(d.one, r2);
     list::put(lists.one, 0, &[q.three]);
     list::put(lists.two, 0, &[r2, q.one]);
@@ -127,14 +127,14 @@ fn round(round: Round, held: Folding, q: Shares, lists: &mut Lists) -> Folding
     folded(round, p, q)
 }
 
-// The comparison and the folds, on the words drawn: one of miner 1, then a mask of each miner for the comparison and for each fold.
+// The comparison of d and the folds, on the words drawn: one of miner 1, then a mask of each miner for the comparison and for each fold.
 #[inline(always)]
-fn folds(u: Shares, v: Shares, words: Tapes, lists: &mut Lists) -> Shares
+fn folds(d: Shares, words: Tapes, lists: &mut Lists) -> Shares
     requires { Block 7 6 6 (tapes_of words) × Room 11 12 12 (lists_of lists.old) }
     ensures same { Same lists.old lists.new }
-    ensures done { let f = spec.folds 5 5 in let w = tapes_of words.entry in (result ≡ (f.result (operands u v) w).p) × (lists_of lists.new ≡ fronts (lists_of lists.old) (f.received (operands u v) w)) }
+    ensures done { (x : Operands) → d ≡ difference (modulus 5) x → let f = spec.folds 5 5 in let w = tapes_of words.entry in (result ≡ (f.result x w).p) × (lists_of lists.new ≡ fronts (lists_of lists.old) (f.received x w)) }
 {
-    let held = compare(u, v, &[words.one[0]], words.at(1, 0), lists);
+    let held = compare(d, &[words.one[0]], words.at(1, 0), lists);
     let held = round(Round { k: 0 }, held, words.at(1, 1), lists);
     let held = round(Round { k: 1 }, held, words.at(1, 2), lists);
     let held = round(Round { k: 2 }, held, words.at(1, 3), lists);
@@ -143,18 +143,11 @@ fn folds(u: Shares, v: Shares, words: Tapes, lists: &mut Lists) -> Shares
     held.p
 }
 
-// The same on lists that are lent one by one, as `equal_on` has them.
+// The same on lists that are lent one by one, as `on_words` has them.
 #[inline(always)]
-fn folds_on(
-    u: Shares,
-    v: Shares,
-    words: Tapes,
-    one: &mut [u32],
-    two: &mut [u32],
-    three: &mut [u32],
-) -> Shares
+fn folds_on(d: Shares, words: Tapes, one: &mut [u32], two: &mut [u32], three: &mut [u32]) -> Shares
     requires { Block 7 6 6 (tapes_of words) × Room 11 12 12 (lists one.old two.old three.old []) }
-    ensures { let f = spec.folds 5 5 in let w = tapes_of words.entry in (result ≡ (f.result (operands u v) w).p) × (lists one.new two.new three.new [] ≡ fronts (lists one.old two.old three.old []) (f.received (operands u v) w)) }
+    ensures { (x : Operands) → d ≡ difference (modulus 5) x → let f = spec.folds 5 5 in let w = tapes_of words.entry in (result ≡ (f.result x w).p) × (lists one.new two.new three.new [] ≡ fronts (lists one.old two.old three.old []) (f.received x w)) }
 {
     let mut lists = Lists {
         one,
@@ -162,11 +155,36 @@ fn folds_on(
         three,
         controller: &mut [],
     };
-    folds(u, v, words, &mut lists)
+    folds(d, words, &mut lists)
 }
 
-// Equal, on lists that are lent one by one. (A call of its own, as Bits is.)
+// 1 if d, the difference of the operands, is 0, else 0; on the words drawn, with room for just the words received. (A call of its own, as
+// that of Below.)
 #[inline(never)]
+fn on_words(
+    d: Shares,
+    tape1: &[u32; 10],
+    tape2: &[u32; 6],
+    tape3: &[u32; 6],
+    one: &mut [u32; 11],
+    two: &mut [u32; 15],
+    three: &mut [u32; 15],
+) -> Shares
+    ensures { (x : Operands) → d ≡ difference (modulus 5) x → let w = tapes [] tape1.now tape2.now tape3.now in (result ≡ (spec.equal 5).result x w) × (lists one.new two.new three.new [] ≡ (spec.equal 5).received x w) }
+{
+    let words = Tapes {
+        provider: &[],
+        one: &tape1[..7],
+        two: tape2,
+        three: tape3,
+    };
+    let word = folds_on(d, words, one, two, three);
+    let bit_words = [tape1[7], tape1[8], tape1[9]];
+    bit::convert(word, 0, &bit_words, &mut two[12..], &mut three[12..])
+}
+
+// Equal, on lists that are lent one by one, as Bits.
+#[inline(always)]
 fn equal_on(
     u: Shares,
     v: Shares,
@@ -184,16 +202,17 @@ fn equal_on(
     if !list::have_room(one, two, three, 11, 15, 15) {
         return Err(Shortage::ListFull);
     }
-    let words = Tapes {
-        provider: &[],
-        one: &tape1[..7],
-        two: tape2,
-        three: tape3,
+    let d = local::difference(u, v);
+    // `have_room` has shown that there is room for so many words.
+    let (Some(one), Some(two), Some(three)) = (
+        one.first_chunk_mut(),
+        two.first_chunk_mut(),
+        three.first_chunk_mut(),
+    ) else {
+        unreachable!();
     };
-    let word = folds_on(u, v, words, one, two, three);
-    let bit_words = [tape1[7], tape1[8], tape1[9]];
     Ok(Done {
-        shares: bit::convert(word, 0, &bit_words, &mut two[12..], &mut three[12..]),
+        shares: on_words(d, tape1, tape2, tape3, one, two, three),
         place: next,
     })
 }

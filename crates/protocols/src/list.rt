@@ -9,14 +9,15 @@ ghost use Rattle.protocols.specs.Lent.{lists_of, Same, Room, to_next_in_order};
 use super::lent::Lists;
 use super::shares::Shares;
 
-// Puts words at a place of a list.
-#[tactic(auto, using(crate::proofs::Laws::Puts::mid_sets))]
+// Puts words at a place of a list. (Word by word: `copy_from_slice` compiles to a test of whether the two overlap first.)
 #[inline(always)]
 pub(crate) fn put(list: &mut [u32], at: usize, words: &[u32])
     requires { at + length words.now ≤ length list.old }
     ensures { list.new ≡ sets list.old at words.now }
 {
-    list[at..at + words.len()].copy_from_slice(words);
+    for (k, word) in words.iter().enumerate() {
+        list[at + k] = *word;
+    }
 }
 
 // Whether the miners' lists, lent one by one, have room for so many words.

@@ -1,6 +1,5 @@
 // What the rounds of Bits and Equal share.
 ghost use Rattle.std.specs.Prelude.{◌≡◌, ◌<◌, bit_xor};
-ghost use Rattle.protocols.specs.Shares.{at, each, prev};
 ghost use Rattle.protocols.specs.Masked as spec;
 
 use super::shares::Shares;
@@ -35,7 +34,7 @@ pub fn and_share(a: u32, x: u32, b: u32, y: u32) -> u32
 
 // The same of every miner.
 pub fn and_shares(a: Shares, b: Shares) -> Shares
-    ensures { result ≡ each (λ i. spec.and_share (at i a) (at (prev i) a) (at i b) (at (prev i) b)) }
+    ensures { result ≡ spec.and_shares a b }
 {
     a.zip_previous(b, |a, b, x, y| and_share(a, x, b, y))
 }

@@ -1,5 +1,6 @@
 // The place record, and draws from a tape.
-ghost use Rattle.std.specs.Prelude.{◌≡◌, Some, drop};
+ghost use Rattle.std.specs.Prelude.{◌≡◌, ◌<◌, ◌≤◌, Some, length, take, drop};
+ghost use Rattle.std.specs.Option.{MatchOption};
 ghost use Rattle.protocols.specs.Place.{count, with_count, draw, place_of};
 ghost use Rattle.protocols.specs.Lent.{drawn};
 ghost use Rattle.protocols.specs.Printed as printed;
@@ -72,12 +73,18 @@ impl Drawn {
     }
 }
 
-// What is left of a tape after so many words.
+// The next N words of a tape after so many, if it has them. (Zero words can be drawn at any place, even beyond the tape.)
 #[inline(always)]
-fn rest(tape: &[u32], used: usize) -> &[u32]
-    ensures { result.now ≡ drop used tape.now }
+fn next_words<const N: usize>(tape: &[u32], used: usize) -> Option<&[u32; N]>
+    ensures { MatchOption result (length (drop used tape.now) < N) (λ w. (N ≤ length (drop used tape.now)) × (w.now ≡ take N (drop used tape.now))) }
 {
-    tape.get(used..).unwrap_or(&[])
+    if tape.len().saturating_sub(used) < N {
+        return None;
+    }
+    if N == 0 {
+        return <[u32]>::first_chunk(&[]);
+    }
+    tape[used..used + N].first_chunk()
 }
 
 impl Place {
@@ -93,7 +100,7 @@ impl Place {
         ensures { drawn result ≡ draw N party tape.now self }
     {
         let at = self.drawn.of(party);
-        let Some(words) = rest(tape, at).first_chunk::<N>() else {
+        let Some(words) = next_words::<N>(tape, at) else {
             return None;
         };
         let drawn = self.drawn.with(party, at + N);

@@ -1,14 +1,38 @@
 // A file's words.
-ghost use Rattle.std.specs.Prelude.{◌≡◌, ◌++◌, ◌/◌, ◌≤◌, length, drop};
+ghost use Rattle.std.specs.Prelude.{◌≡◌, ◌+◌, ◌++◌, ◌/◌, ◌≤◌, length, drop};
+ghost use Rattle.std.proofs.lemmas.List.Edits.{sets};
 ghost use Rattle.session.specs.Words.{words_of};
 
-// Puts the file's words at the front of the lent ones. (By index: of an `iter_mut` within a `zip` no invariant reaches what it writes.)
+// Puts the words of bytes at a place of the lent ones. (By index: of an `iter_mut` within a `zip` no invariant reaches what it writes.)
+#[inline(always)]
+fn put(bytes: &[u8], words: &mut [u32], at: usize)
+    requires { at + length bytes.now / 4 ≤ length words.old }
+    ensures { words.new ≡ sets words.old at (words_of bytes.now) }
+{
+    let (quads, _) = bytes.as_chunks::<4>();
+    for (i, quad) in quads.iter().enumerate() {
+        words[at + i] = u32::from_le_bytes(*quad);
+    }
+}
+
+// The same of a block of four words: by value, so that all of it is read before a word is written, which for all that the compiler knows
+// could be the file's own bytes.
+#[inline(always)]
+fn put_block(block: [u8; 16], words: &mut [u32], at: usize)
+    requires { at + 4 ≤ length words.old }
+    ensures { words.new ≡ sets words.old at (words_of block) }
+{
+    put(&block, words, at);
+}
+
+// Puts the file's words at the front of the lent ones.
 pub(crate) fn decode(file: &[u8], words: &mut [u32])
     requires { length file.now / 4 ≤ length words.old }
     ensures { words.new ≡ words_of file.now ++ drop (length file.now / 4) words.old }
 {
-    let (chunks, _) = file.as_chunks::<4>();
-    for (i, bytes) in chunks.iter().enumerate() {
-        words[i] = u32::from_le_bytes(*bytes);
+    let (blocks, rest) = file.as_chunks::<16>();
+    for (i, block) in blocks.iter().enumerate() {
+        put_block(*block, words, 4 * i);
     }
+    put(rest, words, 4 * blocks.len());
 }

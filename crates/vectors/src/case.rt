@@ -3,6 +3,7 @@ use crate::lists::Delivered;
 use crate::words::Generator;
 use crate::{lists, print, short};
 use machine::code::Code;
+use machine::given::Given;
 use machine::row;
 use protocols::lent::Tapes;
 use protocols::open;
@@ -27,19 +28,11 @@ pub(crate) const WHOLE_LISTS: Received = Received {
     controller: 32,
 };
 
-// What a protocol works on.
-#[derive(Clone, Copy)]
-pub struct Operands {
-    pub input: u32,
-    pub u: Shares,
-    pub v: Shares,
-}
-
 // A protocol with its operands, the place, and how much is lent of each tape and list.
 #[derive(Clone, Copy)]
 pub struct Case {
     pub code: Code,
-    pub operands: Operands,
+    pub operands: Given,
     pub place: Place,
     pub lent: Drawn,
     pub room: Received,
@@ -56,21 +49,21 @@ fn near(u: Shares, v: Shares, word: u32) -> Shares {
 }
 
 // The next two values and an input.
-fn next_operands(code: Code, generator: &mut Generator) -> Operands {
+fn operands(code: Code, generator: &mut Generator) -> Given {
     let u = Shares::from(generator.words());
     let v = Shares::from(generator.words());
     let input = generator.next_word();
-    let operands = Operands { input, u, v };
+    let given = Given { input, u, v };
     match code {
-        Code::Bit => Operands {
+        Code::Bit => Given {
             input: input % 32,
-            ..operands
+            ..given
         },
-        Code::Equal => Operands {
+        Code::Equal => Given {
             v: near(u, v, input),
-            ..operands
+            ..given
         },
-        _ => operands,
+        _ => given,
     }
 }
 
@@ -107,7 +100,7 @@ fn cut(code: Code, drawn: Drawn, generator: &mut Generator) -> Drawn {
 
 // The next case of a protocol, with tapes that are cut and whole lists.
 pub(crate) fn generated(code: Code, generator: &mut Generator) -> Case {
-    let operands = next_operands(code, generator);
+    let operands = operands(code, generator);
     let place = place(generator);
     let lent = cut(code, place.drawn, generator);
     Case {

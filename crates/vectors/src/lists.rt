@@ -1,10 +1,7 @@
 // The received lists of a case: 32 words each, 100 to 131 beforehand. No case sends the word that stands there, so each word
 // put into them shows.
-use crate::case::{Case, Operands};
+use crate::case::Case;
 use crate::words;
-use machine::code::Command;
-use machine::given::Given;
-use machine::lent::Tables;
 use machine::play;
 use machine::refusal::Refusal;
 use protocols::lent::{Lists, Tapes};
@@ -120,21 +117,7 @@ pub(crate) fn perform(case: &Case, tapes: &Tapes) -> Delivered {
         three: tail(&mut three, room.three),
         controller: tail(&mut controller, room.controller),
     };
-    let Operands { input, u, v } = operands;
-    let tables = Tables {
-        one: &mut [u.one, v.one],
-        two: &mut [u.two, v.two],
-        three: &mut [u.three, v.three],
-        kinds: &mut [],
-    };
-    let command = Command {
-        code: 0,
-        a: 1,
-        b: 2,
-    };
-    let inputs = [input];
-    let given = Given::of(command, Place::default(), &tables, &inputs);
-    let outcome = play::play(code, input, &given, place, &fronts, &mut tails);
+    let outcome = play::play(code, operands.input, operands, place, &fronts, &mut tails);
     Delivered {
         place,
         outcome,

@@ -1,8 +1,9 @@
 // What is printed of a case, an outcome and a list.
-use crate::case::{Case, Operands};
+use crate::case::Case;
 use crate::lists;
 use crate::lists::Delivered;
 use machine::code::Code;
+use machine::given::Given;
 use std::io;
 use std::io::Write;
 
@@ -26,7 +27,7 @@ pub(crate) fn name(code: Code) -> &'static str {
 
 // The operands that the protocol uses.
 fn operands(out: &mut impl Write, case: &Case) -> io::Result<()> {
-    let Operands { input, u, v } = case.operands;
+    let Given { input, u, v } = case.operands;
     match case.code {
         Code::Store => write!(out, " w {input}"),
         Code::AddConstant | Code::TimesConstant | Code::Bit => write!(out, " u {u} w {input}"),

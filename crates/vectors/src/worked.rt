@@ -1,7 +1,8 @@
 // Document 01's cases, and Bit at the ends of a word and past it.
-use crate::case::{Case, Operands, WHOLE_LISTS, WHOLE_TAPES};
+use crate::case::{Case, WHOLE_LISTS, WHOLE_TAPES};
 use crate::{lists, print, words};
 use machine::code::Code;
+use machine::given::Given;
 use protocols::lent::Tapes;
 use protocols::open;
 use protocols::place::Place;
@@ -10,8 +11,8 @@ use std::io;
 use std::io::Write;
 
 // A shared value, with an input, a constant or a position.
-fn with(u: [u32; 3], input: u32) -> Operands {
-    Operands {
+fn with(u: [u32; 3], input: u32) -> Given {
+    Given {
         input,
         u: Shares::from(u),
         v: Shares::default(),
@@ -19,8 +20,8 @@ fn with(u: [u32; 3], input: u32) -> Operands {
 }
 
 // Two shared values.
-fn pair(u: [u32; 3], v: [u32; 3]) -> Operands {
-    Operands {
+fn pair(u: [u32; 3], v: [u32; 3]) -> Given {
+    Given {
         v: Shares::from(v),
         ..with(u, 0)
     }
@@ -53,13 +54,7 @@ fn of_provider(provider: &[u32]) -> Tapes<'_> {
 }
 
 // Performs a case from an empty place record, and prints it with the value that its shares give.
-fn line(
-    out: &mut impl Write,
-    label: &str,
-    code: Code,
-    x: Operands,
-    tapes: Tapes,
-) -> io::Result<()> {
+fn line(out: &mut impl Write, label: &str, code: Code, x: Given, tapes: Tapes) -> io::Result<()> {
     let case = Case {
         code,
         operands: x,
@@ -75,13 +70,7 @@ fn line(
 }
 
 // Tapes of numbers in a row, but for the first word of miner 1's.
-fn in_a_row(
-    out: &mut impl Write,
-    label: &str,
-    code: Code,
-    x: Operands,
-    first: u32,
-) -> io::Result<()> {
+fn in_a_row(out: &mut impl Write, label: &str, code: Code, x: Given, first: u32) -> io::Result<()> {
     let mut one = words::in_a_row::<18>(1);
     let two = words::in_a_row::<12>(20);
     let three = words::in_a_row::<12>(40);

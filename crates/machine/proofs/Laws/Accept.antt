@@ -21,7 +21,7 @@ use Rattle.machine.specs.declared.answer.Answer.{Answer}
 use Rattle.machine.specs.declared.code.Code.{Code}
 use Rattle.machine.specs.declared.code.Code.TheVariants.{Store, Add, Subtract, AddConstant, TimesConstant, Multiply, Reshare, Bits, Bit, Equal, Open, Below}
 use Rattle.machine.specs.declared.code.Command.{Command}
-use Rattle.machine.specs.Given.{Given}
+use Rattle.machine.specs.declared.given.Given.{Given}
 use Rattle.machine.specs.declared.lent.Sizes.{Sizes}
 use Rattle.machine.specs.declared.kind.Kind.TheVariants.{RingValue}
 use Rattle.machine.specs.declared.row.Row.{Row}
@@ -30,8 +30,8 @@ use Rattle.machine.specs.Lent.{Tables, Lent, lent, sizes}
 use Rattle.machine.specs.Verdict.{Verdict, Accepted, supplied}
 use Rattle.machine.specs.Steps.{protocol}
 use Rattle.machine.specs.Command.{Outcome as Done, answer, outcome, given, opened, with_words, decided, accepted}
-use Rattle.machine.specs.Accept.{Begun, Fits, alone, one_more, counted, unfilled, Stored, stored, append, left, finished, finish}
-use Rattle.machine.proofs.Laws.Play.{made, Joins}
+use Rattle.machine.specs.Accept.{Begun, Serves, Fits, alone, one_more, counted, unfilled, Stored, stored, append, left, finished, finish}
+use Rattle.machine.proofs.Laws.Play.{made, Joins, alone_served, protocol_served}
 use Rattle.machine.proofs.Laws.Steps.{steps_counted}
 use Rattle.machine.proofs.Laws.Supplied.{Told, lacking, having, f, g, drawn, supplied-told}
 
@@ -56,14 +56,14 @@ no_words k l = λ i.
 -- ---- after a protocol
 
 -- where it is done, its place record can be moved on by the row
-pub fits_if_done : (x : Code) (c : Command) (p : Place) (l : Lent) → Begun x p l → length l.tables.one < 2 ^ 64 → length l.inputs < 2 ^ 64
+pub fits_if_done : (x : Code) (c : Command) (p : Place) (l : Lent) → Begun x c p l → length l.tables.one < 2 ^ 64 → length l.inputs < 2 ^ 64
     → length l.received.one < 2 ^ 64 → length l.received.two < 2 ^ 64 → length l.received.three < 2 ^ 64 → length l.received.controller < 2 ^ 64
     → {r : Row} {o : Outcome} {b : Lists} → r ≡ row 5 x → Told x c p l o b → o.number ≡ 0 → Fits o.place r
 fits_if_done x c p l begun h i j k m n er (lacking d e is) z = absurd (omega (arith, sym z ∙ (λ i. (is i).outcome.number)))
 fits_if_done x c p l begun h i j k m n {r} {o} er (having e fit is) z =
     let q : o.place ≡ advance p (row 5 x).drawn = λ i. (is i).outcome.place in
     rw (q, er) (record {
-      handles = omega (arith, h, begun.entries);
+      handles = omega (arith, h, begun.entries.one);
       inputs = omega (arith, i, begun.inputs);
       one = omega (arith, j, fit (miner one));
       two = omega (arith, k, fit (miner two));
@@ -126,15 +126,15 @@ had_back k l b =
     (take k.three l.three ++ (b.three ++ drop (length l.three - k.three) (drop k.three l.three)))
     (take k.controller l.controller ++ (b.controller ++ drop (length l.controller - k.controller) (drop k.controller l.controller)))
 
-module _ (x : Code) (c : Command) (p : Place) (l : Lent) (begun : Begun x p l) where
-  pub played_told : {q : Given} {o : Outcome} {b : Lists} → q ≡ given l.tables l.inputs p c
+module _ (x : Code) (c : Command) (p : Place) (l : Lent) (begun : Begun x c p l) where
+  pub played_told : (q : Given) {o : Outcome} {b : Lists} → Serves (row 5 x) q (given l.tables l.inputs p c)
       → delivered o b ≡ delivery p (perform (protocol 5 x c.b) q p l.tapes) (lent_part p.received l.received) → Told x c p l o b
-  played_told {q} {o} {b} eg eo =
+  played_told q {o} {b} eg eo =
       let k = p.received in
       let m = l.received in
       supplied-told x c p l begun
       (eo
-      ∙ (λ i. delivery p (perform (protocol 5 x c.b) (eg i) p l.tapes)
+      ∙ (λ i. delivery p (protocol_served c.b p l.tapes q (given l.tables l.inputs p c) x eg i)
       (lists (tail_lent m.one k.one i) (tail_lent m.two k.two i) (tail_lent m.three k.three i) (tail_lent m.controller k.controller i))))
 
   pub played_left : {r : Row} {o : Outcome} {b : Lists} {a : Answer} {e : Stored} → r ≡ row 5 x → Told x c p l o b → left a e ≡ finish r p o l.tables l.kinds
@@ -197,8 +197,8 @@ module _ (c : Command) (p : Place) (l : Lent) where
   value-left Below e = absurd (subst Joins e tt)
 
   -- an entry is due, and there is one
-  pub value_fits : (x : Code) (q : Given) {a : Option Shares} {s : Shares} → Begun x p l → length l.tables.one < 2 ^ 64 → a ≡ alone x c.b q → a ≡ Some s → p.handles + 1 < 2 ^ 64
-  value_fits x q begun h ea es = omega (arith, h, begun.entries, due x (sym ea ∙ es))
+  pub value_fits : (x : Code) (q : Given) {a : Option Shares} {s : Shares} → Begun x c p l → length l.tables.one < 2 ^ 64 → a ≡ alone x c.b q → a ≡ Some s → p.handles + 1 < 2 ^ 64
+  value_fits x q begun h ea es = omega (arith, h, begun.entries.one, due x (sym ea ∙ es))
     where
       due : (x : Code) {s : Shares} → alone x c.b q ≡ Some s → (row 5 x).values ≡ 1
       due Store e = refl
@@ -214,9 +214,9 @@ module _ (c : Command) (p : Place) (l : Lent) where
       due Open e = absurd (subst Joins e tt)
       due Below e = refl
 
-  pub alone-left : (x : Code) {q : Given} {s : Shares} {a : Answer} {e : Stored} → q ≡ given l.tables l.inputs p c → alone x c.b q ≡ Some s
+  pub alone-left : (x : Code) (q : Given) {s : Shares} {a : Answer} {e : Stored} → Serves (row 5 x) q (given l.tables l.inputs p c) → alone x c.b q ≡ Some s
       → left a e ≡ left (answer 0 (one_more p) 0) (append 1 p.handles s RingValue l.tables l.kinds)
       → outcome a (lent e.tables e.kinds l.inputs l.tapes l.received) ≡ is_left x
-  alone-left x eq em ee =
+  alone-left x q eq em ee =
       (λ i. outcome (ee i).answer (lent (ee i).stored.tables (ee i).stored.kinds l.inputs l.tapes l.received))
-      ∙ value-left x (ap (λ q. alone x c.b q) (sym eq) ∙ em)
+      ∙ value-left x (sym (alone_served x c.b q (given l.tables l.inputs p c) eq) ∙ em)

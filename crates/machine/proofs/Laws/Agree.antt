@@ -24,7 +24,7 @@ use Rattle.machine.specs.declared.code.Code.{Code}
 use Rattle.machine.specs.declared.code.Code.TheVariants.{Store, Add, Subtract, AddConstant, TimesConstant, Multiply, Reshare, Bits, Bit, Equal, Open, Below}
 use Rattle.machine.specs.declared.row.Use.{Use}
 use Rattle.machine.specs.declared.row.Use.TheVariants.{Unused, Handle, Word, Position}
-use Rattle.machine.specs.Given.{Given}
+use Rattle.machine.specs.declared.given.Given.{Given}
 use Rattle.machine.specs.declared.code.Command.{Command}
 use Rattle.machine.specs.Table.{find, kind_number, row, opens, moved}
 use Rattle.machine.specs.Lent.{table, Lent, lent, tape_lengths, sizes, entry, shares_at, Filled, AreWords}
@@ -34,10 +34,11 @@ use Rattle.machine.specs.Command.{Outcome, given, opened, put, with_shares, writ
 use Rattle.machine.specs.Registers.{Register, register, Registers, registers, named, value, grown, judge, after, step, shown}
 use Rattle.machine.specs.Start.{combined, register_of, up_to, start}
 use Rattle.machine.specs.Run.{is_opened}
+use Rattle.machine.specs.Accept.{IfHandle}
 use Rattle.machine.specs.Claims.{Appended, New, Opened, Entry2}
 use Rattle.protocols.proofs.Laws.Deliveries.{both}
 use Rattle.machine.proofs.Laws.Accepted.{Passed, all_passed, has_room}
-use Rattle.machine.proofs.Laws.Steps.{IfHandle, GivenAreWords, count-lengths, steps_counted, steps_combine, open_hands}
+use Rattle.machine.proofs.Laws.Steps.{GivenAreWords, count-lengths, steps_counted, steps_combine, open_hands}
 use Rattle.machine.proofs.Laws.Rows.{values_at_most_1, same_code, opens-at_11}
 use Rattle.machine.proofs.Laws.Refusals.{above_zero}
 use Rattle.machine.proofs.Laws.Judge.{is_filled, same-lengths, judge-same}

@@ -1,29 +1,32 @@
--- What is lent to a protocol, and what the miners make alone. (The laws of a protocol that is lent only the tapes that it draws from are
--- for other callers: `play` lends all.)
+-- A protocol on a part of what is given, and what the miners make alone.
 use Rattle.std.specs.Prelude.{Option, Some, None}
-use Prim.Native.Nat.{ℕ, ◌<◌}
+use Prim.Native.Nat.{ℕ}
 use mathlib.Core.Path.{◌≡◌, refl, sym, ap, subst, ◌∙◌}
-use mathlib.Core.List.{List, []}
 use native.Mathlib.Omega.{arith}
-use Rattle.protocols.specs.declared.place.Party.{Party}
-use Rattle.protocols.specs.declared.place.Party.TheVariants.{Provider, One, Two, Three}
 use Rattle.protocols.specs.declared.place.Place.{Place}
 use Rattle.protocols.specs.declared.shares.Shares.{Shares}
 use Rattle.protocols.specs.Outcome.{Outcome}
 use Rattle.protocols.specs.Word.{modulus}
-use Rattle.protocols.specs.Shares.{AreWords, shares}
+use Rattle.protocols.specs.Shares.{shares, operands}
 use Rattle.protocols.specs.Local.{sum, difference, shifted, multiple}
-use Rattle.machine.specs.Given.{Given}
+use Rattle.protocols.specs.Store.{store}
+use Rattle.protocols.specs.Reshare.{reshare}
+use Rattle.protocols.specs.Multiply.{multiply}
+use Rattle.protocols.specs.Bit.{bit}
+use Rattle.protocols.specs.Bits.{bits}
+use Rattle.protocols.specs.Equal.{equal}
+use Rattle.protocols.specs.Open.{opening}
+use Rattle.protocols.specs.Below.{below}
+use Rattle.machine.specs.declared.given.Given.{Given}
 use Rattle.machine.specs.declared.code.Code.{Code}
 use Rattle.machine.specs.declared.code.Code.TheVariants.{Store, Add, Subtract, AddConstant, TimesConstant, Multiply, Reshare, Bits, Bit, Equal, Open, Below}
+use Rattle.machine.specs.Table.{row}
 use Rattle.machine.specs.Steps.{both, protocol}
-use Rattle.machine.specs.Accept.{alone}
-use Rattle.protocols.specs.Place.{Tapes, tapes, tape, Lists, lists, controller, count, counts}
-use Rattle.protocols.specs.Counts.{Counted, received}
+use Rattle.machine.specs.Accept.{alone, Serves}
+use Rattle.protocols.specs.Place.{Tapes, Lists}
 use Rattle.protocols.specs.Protocol.{Protocol, on, locally, Answer, perform}
 use Rattle.protocols.specs.Outcome.{Delivered, finished, delivered, delivery}
-use Rattle.protocols.proofs.Claims.{claims}
-use Rattle.protocols.proofs.Laws.Deliveries.{delivery-silence, controller_kept}
+use Rattle.protocols.proofs.Laws.Deliveries.{delivery-silence}
 use Rattle.protocols.proofs.Laws.Perform.{perform-on, perform-locally}
 
 -- ---- what the miners make alone, if they do
@@ -36,55 +39,44 @@ abbrev pub Joins : Option Shares → Type 0
 Joins (Some s) = ⊥
 Joins None = Unit {0}
 
--- ---- tapes that are lent
+-- ---- by what the command uses
 
--- draws so many words of each tape
-abbrev Draws : {S T : Type 0} → Protocol S T → ℕ → ℕ → ℕ → ℕ → Type 0
-Draws f i j k m = f.draws ≡ counts i j k m
+pub alone_served : (x : Code) (b : ℕ) (g h : Given) → Serves (row 5 x) g h → alone x b g ≡ alone x b h
+alone_served Store b g h s = refl
+alone_served Add b g h s = λ i. Some (sum (modulus 5) (operands (s.1 i) (s.2 i)))
+alone_served Subtract b g h s = λ i. Some (difference (modulus 5) (operands (s.1 i) (s.2 i)))
+alone_served AddConstant b g h s = λ i. Some (shifted (modulus 5) b (s.1 i))
+alone_served TimesConstant b g h s = λ i. Some (multiple (modulus 5) b (s.1 i))
+alone_served Multiply b g h s = refl
+alone_served Reshare b g h s = refl
+alone_served Bits b g h s = refl
+alone_served Bit b g h s = refl
+alone_served Equal b g h s = refl
+alone_served Open b g h s = refl
+alone_served Below b g h s = refl
 
-module _ {S Z : Type 0} (part : S → Z) (f : Protocol Z Shares) (s : S) (p : Place) (w x y z : List ℕ) (l : Lists) {r : Delivered} where
-  -- on tapes u that agree, where words are drawn, with the four
-  lent-to : (u : Tapes) → ((i : Party) → 0 < count i f.draws → tape i u ≡ tape i (tapes w x y z))
-      → r ≡ delivery p (perform f (part s) p u) l → r ≡ delivery p (perform (on part f) s p (tapes w x y z)) l
-  lent-to u e h =
-      h ∙ ap (λ (a : Answer Shares). delivery p a l) ((claims.on_tapes f (part s) p u).other_tapes (tapes w x y z) e ∙ sym (perform-on part f s p (tapes w x y z)))
+module _ (b : ℕ) (p : Place) (t : Tapes) (g h : Given) where
+  on_same : {Z : Type 0} (part : Given → Z) (f : Protocol Z Shares) → part g ≡ part h → perform (on part f) g p t ≡ perform (on part f) h p t
+  on_same part f e = perform-on part f g p t ∙ ap (λ s. perform f s p t) e ∙ sym (perform-on part f h p t)
 
-  pub lent-provider : {i : ℕ} → Draws f i 0 0 0 → r ≡ delivery p (perform f (part s) p (tapes w [] [] [])) l → r ≡ delivery p (perform (on part f) s p (tapes w x y z)) l
-  lent-provider d = lent-to (tapes w [] [] []) agree
-    where
-      agree : (i : Party) → 0 < count i f.draws → tape i (tapes w [] [] []) ≡ tape i (tapes w x y z)
-      agree Provider h = refl
-      agree One h = absurd (omega (arith, h, ap (count One) d))
-      agree Two h = absurd (omega (arith, h, ap (count Two) d))
-      agree Three h = absurd (omega (arith, h, ap (count Three) d))
+  pub protocol_served : (x : Code) → Serves (row 5 x) g h → perform (protocol 5 x b) g p t ≡ perform (protocol 5 x b) h p t
+  unfolding protocol
+  protocol_served Store s = on_same (λ (g : Given). g.input) (store (modulus 5)) (s.0 (λ e. omega (arith, e)))
+  protocol_served Add s = on_same both (locally (sum (modulus 5))) (λ i. operands (s.1 i) (s.2 i))
+  protocol_served Subtract s = on_same both (locally (difference (modulus 5))) (λ i. operands (s.1 i) (s.2 i))
+  protocol_served AddConstant s = on_same (λ (g : Given). g.u) (locally (shifted (modulus 5) b)) s.1
+  protocol_served TimesConstant s = on_same (λ (g : Given). g.u) (locally (multiple (modulus 5) b)) s.1
+  protocol_served Multiply s = on_same both (multiply (modulus 5)) (λ i. operands (s.1 i) (s.2 i))
+  protocol_served Reshare s = on_same (λ (g : Given). g.u) (reshare (modulus 5)) s.1
+  protocol_served Bits s = on_same (λ (g : Given). g.u) (bits 5) s.1
+  protocol_served Bit s = on_same (λ (g : Given). g.u) (bit (modulus 5) b) s.1
+  protocol_served Equal s = on_same both (equal 5) (λ i. operands (s.1 i) (s.2 i))
+  protocol_served Open s = on_same (λ (g : Given). g.u) (opening (modulus 5)) s.1
+  protocol_served Below s = on_same both (below 5) (λ i. operands (s.1 i) (s.2 i))
 
-  pub lent_one : {i : ℕ} → Draws f 0 i 0 0 → r ≡ delivery p (perform f (part s) p (tapes [] x [] [])) l → r ≡ delivery p (perform (on part f) s p (tapes w x y z)) l
-  lent_one d = lent-to (tapes [] x [] []) agree
-    where
-      agree : (i : Party) → 0 < count i f.draws → tape i (tapes [] x [] []) ≡ tape i (tapes w x y z)
-      agree Provider h = absurd (omega (arith, h, ap (count Provider) d))
-      agree One h = refl
-      agree Two h = absurd (omega (arith, h, ap (count Two) d))
-      agree Three h = absurd (omega (arith, h, ap (count Three) d))
+-- ---- on all that is lent
 
-  pub lent_miners : {i j k : ℕ} → Draws f 0 i j k → r ≡ delivery p (perform f (part s) p (tapes [] x y z)) l → r ≡ delivery p (perform (on part f) s p (tapes w x y z)) l
-  lent_miners d = lent-to (tapes [] x y z) agree
-    where
-      agree : (i : Party) → 0 < count i f.draws → tape i (tapes [] x y z) ≡ tape i (tapes w x y z)
-      agree Provider h = absurd (omega (arith, h, ap (count Provider) d))
-      agree One h = refl
-      agree Two h = refl
-      agree Three h = refl
-
--- by the miners alone, and no word is for the controller
-pub among_miners : {S Z : Type 0} {m : ℕ} {Good : Z → Type 0} {i j k q r u : ℕ} (part : S → Z) (f : Protocol Z Shares) (s : S) (p : Place)
-    (w x y z a b c d : List ℕ) {o : Outcome} {a' b' c' : List ℕ} → Counted m f Good (AreWords m) (counts 0 i j k) (received q r u 0)
-    → delivered o (lists a' b' c' []) ≡ delivery p (perform f (part s) p (tapes [] x y z)) (lists a b c [])
-    → delivered o (lists a' b' c' d) ≡ delivery p (perform (on part f) s p (tapes w x y z)) (lists a b c d)
-among_miners part f s p w x y z a b c d t h =
-    lent_miners part f s p w x y z (lists a b c d) t.drawn
-    (controller_kept f (part s) p (tapes [] x y z) a b c d _ (λ v. t.long (part s) v controller) h)
-
+-- a step without draws, which sends nothing
 pub lent_nothing : {S Z : Type 0} (part : S → Z) (f : Z → Shares) (s : S) (p : Place) (t : Tapes) (l : Lists) {o : Outcome} {x : Shares}
     → o ≡ finished x p → x ≡ f (part s) → delivered o l ≡ delivery p (perform (on part (locally f)) s p t) l
 lent_nothing part f s p t l e g =
@@ -93,7 +85,7 @@ lent_nothing part f s p t l e g =
     ∙ delivery-silence (f (part s)) p p l
     ∙ ap (λ (a : Answer Shares). delivery p a l) (sym (perform-on part (locally f) s p t ∙ perform-locally f (part s) p t))
 
--- on all that is lent, from a part of what is given
+-- a protocol, from a part of what is given
 pub on_part : {S Z : Type 0} (part : S → Z) (f : Protocol Z Shares) (s : S) (p : Place) (t : Tapes) (l : Lists) {r : Delivered}
     → r ≡ delivery p (perform f (part s) p t) l → r ≡ delivery p (perform (on part f) s p t) l
 on_part part f s p t l h = h ∙ ap (λ (a : Answer Shares). delivery p a l) (sym (perform-on part f s p t))

@@ -1,4 +1,4 @@
--- Runs and what they open, a command at a time: what a layer above cites in place of the definitions.
+-- Runs, the commands done and what they open, a command at a time: what a layer above cites in place of the definitions.
 use Prim.Native.Nat.{ℕ, suc}
 use mathlib.Core.Path.{◌≡◌, refl, ap}
 use mathlib.Core.Bool.{cond}
@@ -12,7 +12,7 @@ use Rattle.machine.specs.declared.answer.Answer.{Answer}
 use Rattle.machine.specs.Lent.{Lent, lent}
 use Rattle.machine.specs.Command.{command}
 use Rattle.machine.specs.Start.{start}
-use Rattle.machine.specs.Run.{Ran, ran, before, run, run_to_refusal, is_opened, opened_words}
+use Rattle.machine.specs.Run.{Ran, ran, before, run, run_to_refusal, accepted, refused_with, is_opened, opened_words}
 
 -- ---- past refusals
 
@@ -41,6 +41,24 @@ pub to_refusal-first : (n : ℕ) (c : Command) (cs : List Command) (p : Place) (
     ≡ cond (eqb o.answer.number 0) (before o (run_to_refusal n cs o.answer.place o.lent)) (before o (ran [] o.answer.place o.lent))
 unfolding run_to_refusal
 to_refusal-first n c cs p l = refl
+
+-- ---- commands done, and the number of a refused one
+
+pub accepted_none : accepted [] ≡ 0
+unfolding accepted
+accepted_none = refl
+
+pub accepted_next : (a : Answer) (l : List Answer) → accepted (a ∷ l) ≡ cond (eqb a.number 0) (suc (accepted l)) 0
+unfolding accepted
+accepted_next a l = refl
+
+pub refused_none : refused_with [] ≡ 0
+unfolding refused_with
+refused_none = refl
+
+pub refused_next : (a : Answer) (l : List Answer) → refused_with (a ∷ l) ≡ cond (eqb a.number 0) (refused_with l) a.number
+unfolding refused_with
+refused_next a l = refl
 
 -- ---- the words opened
 

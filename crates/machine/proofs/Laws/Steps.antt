@@ -22,25 +22,17 @@ use Rattle.protocols.proofs.Claims.{claims}
 use Rattle.protocols.proofs.Laws.Blocks.{block_same}
 use Rattle.machine.specs.declared.code.Code.{Code}
 use Rattle.machine.specs.declared.code.Code.TheVariants.{Store, Add, Subtract, AddConstant, TimesConstant, Multiply, Reshare, Bits, Bit, Equal, Open, Below}
-use Rattle.machine.specs.declared.row.Use.{Use}
-use Rattle.machine.specs.declared.row.Use.TheVariants.{Unused, Handle, Word, Position}
-use Rattle.machine.specs.Given.{Given}
+use Rattle.machine.specs.declared.given.Given.{Given}
 use Rattle.machine.specs.declared.code.Command.{Command}
 use Rattle.machine.specs.Table.{kind_number, row}
 use Rattle.machine.specs.Lent.{Lent, tape_lengths, sizes}
 use Rattle.machine.specs.Steps.{both, protocol}
 use Rattle.machine.specs.Command.{given}
+use Rattle.machine.specs.Accept.{IfHandle}
 use Rattle.machine.specs.Registers.{value}
 use Rattle.machine.specs.Start.{combined}
 use Rattle.machine.specs.Claims.{NeverSpent}
 use Rattle.machine.proofs.Laws.Accepted.{every_one, Passed, all_passed}
-
--- where a field names a handle
-abbrev pub IfHandle : Use → Type 0 → Type 0
-IfHandle Unused A = Unit {0}
-IfHandle Handle A = A
-IfHandle Word A = Unit {0}
-IfHandle Position A = Unit {0}
 
 -- what a command works on is words
 abbrev pub GivenAreWords : ℕ → Code → Given → Type 0

@@ -19,7 +19,7 @@ use Rattle.protocols.specs.Claims.{Lacks}
 use Rattle.protocols.proofs.Claims.{claims}
 use Rattle.machine.specs.declared.code.Code.{Code}
 use Rattle.machine.specs.declared.code.Command.{Command}
-use Rattle.machine.specs.Given.{Given}
+use Rattle.machine.specs.declared.given.Given.{Given}
 use Rattle.machine.specs.Table.{row}
 use Rattle.machine.specs.Lent.{Lent, tape_lengths, list_lengths, sizes}
 use Rattle.machine.specs.Verdict.{Verdict, Accepted, Refused, tapes_have, lists_have, supplied}
@@ -31,7 +31,7 @@ use Rattle.machine.proofs.Laws.Steps.{count-lengths, steps_counted, performs}
 use Rattle.machine.proofs.Laws.Entries.{due-list_lengths}
 
 -- each list is as long as the place has it filled
-begun-list : {x : Code} {p : Place} {l : Lent} → Begun x p l → (r : Receiver) → due r p.received ≤ length (list r l.received)
+begun-list : {x : Code} {c : Command} {p : Place} {l : Lent} → Begun x c p l → (r : Receiver) → due r p.received ≤ length (list r l.received)
 begun-list begun (miner one) = begun.one
 begun-list begun (miner two) = begun.two
 begun-list begun (miner three) = begun.three
@@ -68,7 +68,7 @@ pub data Told (x : Code) (c : Command) (p : Place) (l : Lent) (o : Outcome) (b :
       → delivered o b ≡ delivered (finished ((f x c p l).result (g x c p l) (drawn x c p l)) (advance p (row 5 x).drawn)) (fronts (part x c p l) ((f x c p l).received (g x c p l) (drawn x c p l)))
       → Told x c p l o b
 
-pub supplied-told : (x : Code) (c : Command) (p : Place) (l : Lent) → Begun x p l → {o : Outcome} {b : Lists}
+pub supplied-told : (x : Code) (c : Command) (p : Place) (l : Lent) → Begun x c p l → {o : Outcome} {b : Lists}
     → delivered o b ≡ delivery p (perform (protocol 5 x c.b) (given l.tables l.inputs p c) p l.tapes) (unfilled p.received l.received) → Told x c p l o b
 supplied-told x c p l begun {o} {b} e = by_tapes (tapes_have (row 5 x) p (sizes l)) refl (some_tape (λ i. count i (row 5 x).drawn) (λ i. count i (tape_lengths l.tapes) - count i p.drawn))
   where

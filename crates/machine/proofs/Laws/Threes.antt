@@ -1,9 +1,9 @@
 -- Lists that are read in threes.
-use Prim.Native.Nat.{ℕ, suc, ◌+◌, ◌/◌, ◌≤◌, ◌<◌}
+use Prim.Native.Nat.{ℕ, zero, suc, ◌+◌, ◌*◌, ◌/◌, ◌≤◌, ◌<◌}
 use mathlib.Core.Path.{◌≡◌, refl, ap}
 use mathlib.Core.List.{List, [], ◌∷◌, map}
 use native.Mathlib.Omega.{arith}
-use lib.ListN.{length, get_or, drop, length-drop}
+use lib.ListN.{length, get_or, take, drop, length-drop}
 use Rattle.std.specs.Simd.{first_chunks}
 use Rattle.machine.specs.declared.code.Command.{Command}
 use Rattle.machine.specs.Table.{command}
@@ -36,6 +36,26 @@ commands_cut [] = refl
 commands_cut (x ∷ []) = refl
 commands_cut (x ∷ y ∷ []) = refl
 commands_cut (x ∷ y ∷ z ∷ l) = rw (three_more (length l)) (ap (λ (cs : List Command). command x y z ∷ cs) (commands_cut l))
+
+three_times : (k : ℕ) → 3 * suc k ≡ suc (suc (suc (3 * k)))
+three_times k = omega arith
+
+-- the first k commands are those of the first 3 * k words
+pub commands_taken : (k : ℕ) (l : List ℕ) → commands_of (take (3 * k) l) ≡ take k (commands_of l)
+unfolding commands_of
+commands_taken zero l = refl
+commands_taken (suc k) [] = rw (three_times k)
+commands_taken (suc k) (x ∷ []) = rw (three_times k)
+commands_taken (suc k) (x ∷ y ∷ []) = rw (three_times k)
+commands_taken (suc k) (x ∷ y ∷ z ∷ l) = rw (three_times k) (ap (λ (cs : List Command). command x y z ∷ cs) (commands_taken k l))
+
+-- three words each, and no more than there are
+pub commands_fit : (l : List ℕ) → 3 * length (commands_of l) ≤ length l
+unfolding commands_of
+commands_fit [] = omega arith
+commands_fit (x ∷ []) = omega arith
+commands_fit (x ∷ y ∷ []) = omega arith
+commands_fit (x ∷ y ∷ z ∷ l) = let h = commands_fit l in omega (arith, h)
 
 -- the word that three shares add up to
 abbrev pub sum_in : ℕ → List ℕ → ℕ

@@ -1,5 +1,5 @@
 -- Deliveries: an answer's words at the front of the lent lists.
-use Rattle.std.proofs.Common.{◌≡◌, ℕ, ◌<◌, ◌≤◌, Bool, true, false, ◌&&◌, leb, List, [], ◌∷◌, ◌++◌, length, drop, sym, refl, ap, ◌∙◌, subst, zero-add, arith, le-leb, leb-true}
+use Rattle.std.proofs.Common.{◌≡◌, ℕ, ◌<◌, ◌≤◌, Bool, true, false, ◌&&◌, leb, List, [], ◌∷◌, ◌++◌, length, drop, drop_of_length-le, append-nil, sym, refl, ap, ◌∙◌, subst, zero-add, arith, le-leb, leb-true}
 use borrow.Author.Tests.{lt-leb}
 use lib.Dec.{leb-zero}
 use lib.Seq.{sets, sets-eq}
@@ -88,7 +88,7 @@ room_false l w (miner three) h =
     rw (lt-leb (length w.three) (length l.three) h, and-false (leb (length w.two) (length l.two)), and-false (leb (length w.one) (length l.one)), and-false (leb (length w.controller) (length l.controller)))
 room_false l w controller h = rw (lt-leb (length w.controller) (length l.controller) h)
 
-begins_with : (l w : List ℕ) → length w ≤ length l → sets l 0 w ≡ w ++ drop (length w) l
+pub begins_with : (l w : List ℕ) → length w ≤ length l → sets l 0 w ≡ w ++ drop (length w) l
 begins_with l w h = sets-eq w l 0 (omega arith) ∙ ap (λ (k : ℕ). w ++ drop k l) (zero-add (length w))
 
 pub delivers : (p : Place) (l : Lists) (s : Shares) (w : Lists) (q : Place) → Delivers p l s w q
@@ -103,6 +103,26 @@ delivers p l s w q = record {
     begins (miner two) h = begins_with l.two w.two h
     begins (miner three) h = begins_with l.three w.three h
     begins controller h = begins_with l.controller w.controller h
+
+-- words that stand for the front of each list
+in_place : (l a : List ℕ) (n : ℕ) → length a ≡ n → n ≤ length l → a ++ drop n l ≡ sets l 0 a
+in_place l a n e h = ap (λ (k : ℕ). a ++ drop k l) (sym e) ∙ sym (begins_with l a (omega (arith, e, h)))
+
+pub fronts_written : (l w : Lists) (k : Received) → ((r : Receiver) → length (list r w) ≡ due r k) → ((r : Receiver) → due r k ≤ length (list r l))
+    → {a b c : List ℕ} → lists a b c [] ≡ w → lists (a ++ drop k.one l.one) (b ++ drop k.two l.two) (c ++ drop k.three l.three) l.controller ≡ fronts l w
+fronts_written l w k long fits {a} {b} {c} e =
+    (λ i. lists (in_place l.one a k.one (ap (λ (x : Lists). length x.one) e ∙ long (miner one)) (fits (miner one)) i)
+    (in_place l.two b k.two (ap (λ (x : Lists). length x.two) e ∙ long (miner two)) (fits (miner two)) i)
+    (in_place l.three c k.three (ap (λ (x : Lists). length x.three) e ∙ long (miner three)) (fits (miner three)) i) l.controller)
+    ∙ ap (fronts l) e
+
+-- lists of just as many words are those words
+all_of : (l w : List ℕ) → length w ≡ length l → sets l 0 w ≡ w
+all_of l w e = begins_with l w (omega (arith, e)) ∙ rw (drop_of_length-le l {i = length w} (omega (arith, e)), append-nil) refl
+
+pub fronts_whole : (l w : Lists) → ((r : Receiver) → length (list r w) ≡ length (list r l)) → fronts l w ≡ w
+fronts_whole l w e = λ i.
+    lists (all_of l.one w.one (e (miner one)) i) (all_of l.two w.two (e (miner two)) i) (all_of l.three w.three (e (miner three)) i) (all_of l.controller w.controller (e controller) i)
 
 -- ---- lists that receive nothing
 

@@ -24,7 +24,7 @@ use Rattle.protocols.specs.Equal.{compare, begin, folded, fold, folds, equal}
 use Rattle.protocols.specs.Local.{difference}
 use Rattle.protocols.specs.Below.{below}
 use Rattle.protocols.proofs.Laws.Blocks.{tapes_ext}
-use Rattle.protocols.proofs.Laws.Puts.{tail_sets}
+use Rattle.protocols.proofs.Laws.Puts.{tail_sets, last_lent, last_back}
 use Rattle.protocols.proofs.Laws.Deliveries.{fronts_puts, words_lack}
 use Rattle.protocols.proofs.Laws.Draws.{enough_true, draw_some, block-first, block-word}
 use Rattle.protocols.proofs.Laws.Counts.{table_at_32}
@@ -68,8 +68,8 @@ module _ (n : Drawn) (p : Place) (t : Tapes) where
 
 -- what a protocol delivers of a drawn block
 module _ {S : Type 0} (f : Protocol S Shares) (n : Drawn) (draws : f.draws ≡ n) (s : S) (p : Place) (t : Tapes) where
-  pub delivery_spent : draw_block n p t ≡ None → (l : Lists) → delivered (refused 12 p) l ≡ delivery p (perform f s p t) l
-  delivery_spent z l = words_lack f n draws s p t l (block_spent n p t z)
+  pub spent_delivers : draw_block n p t ≡ None → (l : Lists) → delivered (refused 12 p) l ≡ delivery p (perform f s p t) l
+  spent_delivers z l = words_lack f n draws s p t l (block_spent n p t z)
 
   pub delivery_drawn : {w : Tapes} {q : Place} → draw_block n p t ≡ Some (w, q) → (k : Received) → ((s : S) (b : Tapes) (r : Receiver) → length (list r (f.received s b)) ≡ due r k)
       → {l₀ l : Lists} {x : Shares} → ((r : Receiver) → due r k ≤ length (list r l₀)) → (x ≡ f.result s w) × (l ≡ fronts l₀ (f.received s w))
@@ -218,6 +218,17 @@ module _ (m j : ℕ) (l₀ l : Lists) (w : Lists) (k : Received) (long : (r : Re
       (tail_sets l.three w'.three k.three (omega (arith, long_three, room (miner three))) i) l.controller)
       ∙ ap (λ (x : Lists). puts k x w') are
       ∙ fronts_puts l₀ w w' k long
+
+  -- the tails being the last three words of lists of just so many
+  pub bit_last : length l₀.two ≡ k.two + 3 → length l₀.three ≡ k.three + 3 → (y : Shares) (v : Tapes) {a b : List ℕ}
+      → lists [] a b [] ≡ fronts (lists [] (take 3 (drop k.two l.two)) (take 3 (drop k.three l.three)) []) ((bit m j).received y v)
+      → lists l.one (take k.two l.two ++ (a ++ drop 3 (drop k.two l.two))) (take k.three l.three ++ (b ++ drop 3 (drop k.three l.three))) l.controller
+      ≡ fronts l₀ (w followed_by (bit m j).received y v)
+  bit_last e f y v {a} {b} h =
+      let two_long : length l.two ≡ k.two + 3 = ap (λ (x : Lists). length x.two) are ∙ length-sets l₀.two 0 w.two ∙ e in
+      let three_long : length l.three ≡ k.three + 3 = ap (λ (x : Lists). length x.three) are ∙ length-sets l₀.three 0 w.three ∙ f in
+      rw (last_back l.two k.two 3 a two_long, last_back l.three k.three 3 b three_long)
+      (bit_behind y v (rw (last_lent l.two k.two 3 two_long, last_lent l.three k.three 3 three_long) at h))
 
 -- of a block, the first j words of miner 1's with all of the others'; and the last three of miner 1's
 abbrev pub first_words : ℕ → Tapes → Tapes

@@ -1,4 +1,4 @@
--- Draws: one word at a time is the same as a block, and a block after a block is one block.
+-- Draws: one tape after the other is the same as a block, and a block after a block is one block.
 use Rattle.std.specs.Prelude.{Option, Some, None}
 use Rattle.std.proofs.Common.{◌≡◌, ℕ, zero, suc, ◌+◌, ◌-◌, ◌<◌, ◌≤◌, Bool, true, false, ◌&&◌, leb, List, [], ◌++◌, length, get_or, take, drop, refl, sym, ap, ◌∙◌, append-nil, add-zero, add_assoc, arith, length-drop, drop_of_length-le, length-take-le, get_or-drop, take_all, get_or-take, take-take, drop-drop, take-add, drop_at, le-leb, leb-false, leb-true}
 use borrow.Author.Tests.{lt-leb}
@@ -10,7 +10,6 @@ use Rattle.protocols.specs.declared.place.Party.TheVariants.{Provider, One, Two,
 use Rattle.protocols.specs.declared.place.Drawn.{Drawn}
 use Rattle.protocols.specs.declared.place.Place.{Place}
 use Rattle.protocols.specs.declared.shares.Shares.{Shares}
-use Rattle.protocols.specs.Shares.{shares}
 use Rattle.protocols.proofs.Laws.Blocks.{tapes_ext}
 use Rattle.protocols.specs.Draws.{draw_each, draw_pairs, draw_block}
 use Rattle.protocols.specs.Place.{Tapes, tapes, tape, words, counts, count, with_count, plus, cut, rest, advance, moved, tape_number, draw, draw_case, every, has, enough, block}
@@ -165,7 +164,7 @@ block-word n d k l h = get_or-take n (drop d l) k 0 h ∙ get_or-drop d l k 0
 pub block-first : (n d : ℕ) (l : List ℕ) → 0 < n → get_or (take n (drop d l)) 0 0 ≡ get_or l d 0
 block-first n d l h = block-word n d 0 l h ∙ ap (λ (k : ℕ). get_or l k 0) (add-zero d)
 
--- ---- words drawn one by one make up a block
+-- ---- words drawn of one tape after the other make up a block
 
 -- what follows a draw
 abbrev pub after : {T A : Type 0} → Option (T × Place) → (T → Place → A) → A → A
@@ -211,10 +210,6 @@ module _ (k : ℕ) (i : Party) (l : List ℕ) (p : Place) where
 -- words of one tape alone
 abbrev pub only : Party → ℕ → Drawn
 only i k = with_count i k (counts 0 0 0 0)
-
--- the first of the words drawn
-abbrev pub first : List ℕ → ℕ
-first w = get_or w 0 0
 
 module _ (p : Place) (t : Tapes) where
   others_none : (i : Party) (k : ℕ) → k ≤ length (tape i t) - count i p.drawn → (j : Party) → count j (only i k) ≤ length (tape j t) - count j p.drawn
@@ -262,34 +257,6 @@ module _ (p : Place) (t : Tapes) where
   advance_only Two k = cc (add-zero p.drawn.provider, add-zero p.drawn.one, add-zero p.drawn.three)
   advance_only Three k = cc (add-zero p.drawn.provider, add-zero p.drawn.one, add-zero p.drawn.two)
 
-  abbrev pub in_turn : Option (Shares × Place)
-  in_turn =
-      after (draw 1 One t.one p)
-      (λ a p₁. after (draw 1 Two t.two p₁) (λ b p₂. after (draw 1 Three t.three p₂) (λ c p₃. Some (shares (first a) (first b) (first c), p₃)) None) None)
-      None
-
-  pub each_in_turn : draw_each p t ≡ in_turn
-  unfolding draw_each draw block
-  each_in_turn = sym (go (has_word One) refl (has_word Two) refl (has_word Three) refl)
-    where
-      has_word : Party → Bool
-      has_word i = leb 1 (length (tape i t) - count i p.drawn)
-
-      spent : (i : Party) → has_word i ≡ false → count i (counts 0 1 1 1) ≡ 1 → None ≡ draw_each p t
-      spent i h e = rw (enough_false (counts 0 1 1 1) p t i (rw e (leb-false 1 _ h)))
-
-      go : (a : Bool) → has_word One ≡ a → (b : Bool) → has_word Two ≡ b → (c : Bool) → has_word Three ≡ c → in_turn ≡ draw_each p t
-      go false e b f c g = rw e (spent One e refl)
-      go true e false f c g = rw (e, f) (spent Two f refl)
-      go true e true f false g = rw (e, f, g) (spent Three g refl)
-      go true e true f true g = rw (e, f, g, enough_true (counts 0 1 1 1) p t enough_here) (cc (add-zero p.drawn.provider))
-        where
-          enough_here : (i : Party) → count i (counts 0 1 1 1) ≤ length (tape i t) - count i p.drawn
-          enough_here Provider = omega arith
-          enough_here One = leb-true 1 _ e
-          enough_here Two = leb-true 1 _ f
-          enough_here Three = leb-true 1 _ g
-
   -- a block of words of each miner's tape, one tape after the other
   module _ (a b c : ℕ) where
     abbrev pub tapes_in_turn : Option (Tapes × Place)
@@ -309,17 +276,21 @@ module _ (p : Place) (t : Tapes) where
         go true e true f false g = rw (enough_miners a b c p t, e, f, g)
         go true e true f true g = rw (enough_miners a b c p t, e, f, g) (cc (add-zero p.drawn.provider))
 
-  -- two words of each miner are a block of them
-  pub pairs_of_block : draw_pairs p t ≡ after {T = Tapes} (draw_block (counts 0 2 2 2) p t) (λ w q. Some ((words w 0, words w 1), q)) None
-  unfolding draw_pairs draw_block
-  pairs_of_block = go (enough (counts 0 2 2 2) p t)
+  -- what is taken of a block, where it is drawn
+  of_block : {T : Type 0} (n : Drawn) (taken : Tapes → T)
+      → draw_case (tape_number (enough n p t)) (taken (block n p t)) (advance p n) ≡ after {T = Tapes} (draw_block n p t) (λ w q. Some (taken w, q)) None
+  unfolding draw_block
+  of_block {T} n taken = go (enough n p t)
     where
-      b : Tapes
-      b = block (counts 0 2 2 2) p t
-
-      q : Place
-      q = advance p (counts 0 2 2 2)
-
-      go : (e : Bool) → draw_case {T = Shares × Shares} (tape_number e) (words b 0, words b 1) q ≡ after {T = Tapes} (draw_case (tape_number e) b q) (λ w q. Some ((words w 0, words w 1), q)) None
+      go : (e : Bool) → draw_case {T = T} (tape_number e) (taken (block n p t)) (advance p n) ≡ after {T = Tapes} (draw_case (tape_number e) (block n p t) (advance p n)) (λ w q. Some (taken w, q)) None
       go true = refl
       go false = refl
+
+  -- a word of each miner, and two, are of a block of them
+  pub each_of_block : draw_each p t ≡ after {T = Tapes} (draw_block (counts 0 1 1 1) p t) (λ w q. Some (words w 0, q)) None
+  unfolding draw_each
+  each_of_block = of_block (counts 0 1 1 1) (λ w. words w 0)
+
+  pub pairs_of_block : draw_pairs p t ≡ after {T = Tapes} (draw_block (counts 0 2 2 2) p t) (λ w q. Some ((words w 0, words w 1), q)) None
+  unfolding draw_pairs
+  pairs_of_block = of_block {T = Shares × Shares} (counts 0 2 2 2) (λ w. (words w 0, words w 1))

@@ -1,7 +1,6 @@
 -- Words that are put into a list, one after the other, and into its tail.
 use Rattle.std.proofs.Common.{◌≡◌, ℕ, suc, ◌+◌, ◌-◌, ◌<◌, ◌≤◌, List, [], ◌∷◌, ◌++◌, length, map, get_or, take, drop, set, sym, ap, ◌∙◌, append_assoc, append-nil, add-zero, zero-add, add-one, arith, length-append, length-drop, drop_of_length-le, length-take-le, take_all, drop-cons, drop-drop}
 use lib.Seq.{sets, sets-eq}
-use borrow.Rule.Slice.PartMut.{put_mid}
 use Rattle.std.proofs.lemmas.List.{map-append, length-map, take_more}
 use Rattle.protocols.specs.declared.shares.Shares.{Shares}
 use Rattle.protocols.specs.Place.{Lists, lists}
@@ -65,14 +64,6 @@ puts_next first at k w z l₀ l h e =
     ∙ (λ i. lists (put_next l₀.one first k w z (λ (x : Shares). x.three) h i) (put_next l₀.two at k w z (λ (x : Shares). x.one) h i)
     (put_next l₀.three at k w z (λ (x : Shares). x.two) h i) l₀.controller)
 
--- ---- a part of a list
-
--- the words from a place on, put anew
-pub mid_sets : (l w : List ℕ) (at : ℕ) → at + length w ≤ length l → put_mid at (length w) l w ≡ sets l at w
-mid_sets l w at h =
-    ap (λ (r : List ℕ). take at l ++ (w ++ r)) (drop-drop (length w) at l)
-    ∙ sym (sets-eq w l at h ∙ append_assoc (take at l) w (drop (at + length w) l))
-
 -- ---- the tail of a list
 
 -- the whole tail is lent
@@ -86,6 +77,16 @@ pub tail_back : (l : List ℕ) (at : ℕ) (back : List ℕ) → take at l ++ (ba
 tail_back l at back =
     let n : length (drop at l) ≡ length l - at = length-drop at l in
     let z : drop (length l - at) (drop at l) ≡ [] = drop_of_length-le (drop at l) {i = length l - at} (omega arith) in
+    rw (z, append-nil)
+
+-- the last n words of a list of so many more than `at` are its tail
+pub last_lent : (l : List ℕ) (at n : ℕ) → length l ≡ at + n → take n (drop at l) ≡ drop at l
+last_lent l at n e = let d : length (drop at l) ≡ length l - at = length-drop at l in take_all n (drop at l) (omega (arith, d, e))
+
+pub last_back : (l : List ℕ) (at n : ℕ) (back : List ℕ) → length l ≡ at + n → take at l ++ (back ++ drop n (drop at l)) ≡ take at l ++ back
+last_back l at n back e =
+    let d : length (drop at l) ≡ length l - at = length-drop at l in
+    let z : drop n (drop at l) ≡ [] = drop_of_length-le (drop at l) {i = n} (omega (arith, d, e)) in
     rw (z, append-nil)
 
 -- and is as long as it was

@@ -8,6 +8,7 @@ use lib.ListN.{length, get_or, take, drop, replicate, length-replicate}
 use lib.Seq.{take_at, get_or_at}
 use Rattle.machine.specs.declared.answer.Answer.{Answer}
 use Rattle.machine.specs.Run.{accepted, refused_with}
+use Rattle.machine.proofs.Laws.Runs.{accepted_none, accepted_next, refused_none, refused_next}
 
 -- ---- commands done, and the number
 
@@ -19,16 +20,13 @@ abbrev numbers_of : List Answer → List ℕ
 numbers_of l = map (λ a. a.number) l
 
 told_next : (a : Answer) (l : List Answer) (k r : ℕ) → a.number ≡ 0 → Told l k r → Told (a ∷ l) (suc k) r
-unfolding accepted refused_with
-told_next a l k r e t = rw (eq-eqb a.number 0 e) (ap suc t.0, t.1)
+told_next a l k r e t = rw (accepted_next a l, refused_next a l, eq-eqb a.number 0 e) (ap suc t.0, t.1)
 
 told_last : (a : Answer) (l : List Answer) (r : ℕ) → 0 < r → a.number ≡ r → Told (a ∷ l) 0 r
-unfolding accepted refused_with
-told_last a l r h e = rw (ne_eqb a.number 0 (λ f. omega (arith, e, f))) (refl, e)
+told_last a l r h e = rw (accepted_next a l, refused_next a l, ne_eqb a.number 0 (λ f. omega (arith, e, f))) (refl, e)
 
 pub told-done : (l : List Answer) (k : ℕ) → numbers_of l ≡ replicate k 0 → Told l k 0
-unfolding accepted refused_with
-told-done [] zero e = (refl, refl)
+told-done [] zero e = (accepted_none, refused_none)
 told-done [] (suc k) e = absurd (omega (arith, ap length e))
 told-done (a ∷ l) zero e = absurd (omega (arith, ap length e))
 told-done (a ∷ l) (suc k) e = told_next a l k 0 (ap (λ (t : List ℕ). get_or t 0 0) e) (told-done l k (ap (drop 1) e))

@@ -1,5 +1,5 @@
 -- The text, from what a session leaves: its answer, the words, and the words that the controller received.
-use Prim.Native.Nat.{ℕ, zero, suc, ◌+◌, ◌*◌, ◌/◌, ◌≤◌, ◌<◌}
+use Prim.Native.Nat.{ℕ, ◌+◌, ◌*◌, ◌/◌, ◌≤◌, ◌<◌}
 use mathlib.Core.Path.{◌≡◌, refl, sym, ap, ap₂, ◌∙◌, subst}
 use mathlib.Core.Bool.{Bool, true, false, cond, false≢true}
 use mathlib.Core.List.{List, [], ◌∷◌, ◌++◌}
@@ -9,10 +9,9 @@ use lib.ListN.{length, take, drop, length-append, length-drop}
 use lib.Seq.{sets, length-take-le, get_or-take, take-take, take-append-le, drop-append-le}
 use lib.Dec.{eqb, leb}
 use Rattle.protocols.specs.Word.{modulus}
-use Rattle.machine.specs.declared.code.Command.{Command}
-use Rattle.machine.specs.Table.{command as asked}
 use Rattle.machine.specs.Run.{Ran, commands_of, accepted, empty, sums_in_threes}
 use Rattle.machine.proofs.Claims.{claims}
+use Rattle.machine.proofs.Laws.Threes.{commands_taken, commands_fit}
 use Rattle.protocols.proofs.Laws.Deliveries.{both}
 use Rattle.session.specs.declared.answer.SessionAnswer.{SessionAnswer}
 use Rattle.session.specs.Words.{words_of}
@@ -23,26 +22,6 @@ use Rattle.session.proofs.Laws.Contents.{Accepted, bodies, long, twelve, at_most
 use Rattle.session.proofs.Laws.Contents as contents
 use Rattle.session.proofs.Laws.Session.{session-run, session-refused}
 use Rattle.session.proofs.Laws.RunLines.{run_lines, run-done}
-
--- ---- commands in threes
-
-three-suc : (k : ℕ) → 3 * suc k ≡ suc (suc (suc (3 * k)))
-three-suc k = omega arith
-
-first-commands : (k : ℕ) (w : List ℕ) → commands_of (take (3 * k) w) ≡ take k (commands_of w)
-unfolding commands_of
-first-commands zero w = refl
-first-commands (suc k) [] = rw (three-suc k)
-first-commands (suc k) (x ∷ []) = rw (three-suc k)
-first-commands (suc k) (x ∷ y ∷ []) = rw (three-suc k)
-first-commands (suc k) (x ∷ y ∷ z ∷ r) = rw (three-suc k) (ap (λ (t : List Command). asked x y z ∷ t) (first-commands k r))
-
-in_threes : (w : List ℕ) → 3 * length (commands_of w) ≤ length w
-unfolding commands_of
-in_threes [] = omega arith
-in_threes (x ∷ []) = omega arith
-in_threes (x ∷ y ∷ []) = omega arith
-in_threes (x ∷ y ∷ z ∷ r) = let h = in_threes r in omega (arith, h)
 
 -- ---- the commands' body
 
@@ -86,7 +65,7 @@ module _ (f : List ℕ) {lent : Bool} (a : Accepted f lent) where
       ∙ sym (take-take k (count_of words 0) (drop (start_of words 0) words) h)
 
   done-commands : (k : ℕ) → k ≤ length (commands_of (body words 0)) → 3 * k ≤ count_of words 0
-  done-commands k h = omega (arith, in_threes (body words 0), long-body)
+  done-commands k h = omega (arith, commands_fit (body words 0), long-body)
 
 -- ---- the text
 
@@ -120,7 +99,7 @@ module _ (f w : List ℕ) (s : State) where
     run-text =
         let handed = claims.controller_adds_up 5 sheet.commands empty (lent_with sheet s) in
         run_lines 5 sheet.commands empty (lent_with sheet s)
-        ∙ ap₂ lines_with (sym (ap commands_of (commands_stand f taken (3 * done) (drop (length f / 4) w) few) ∙ first-commands done (body (words_of f) 0)))
+        ∙ ap₂ lines_with (sym (ap commands_of (commands_stand f taken (3 * done) (drop (length f / 4) w) few) ∙ commands_taken done (body (words_of f) 0)))
         (handed.add_up ∙ ap (sums_in_threes (modulus 5)) (sym handed.received))
 
     run-told : Told (performed (finished answers) (with_words f w))

@@ -12,7 +12,7 @@ use Rattle.machine.specs.declared.answer.Answer.{Answer}
 use Rattle.machine.specs.Lent.{Lent}
 use Rattle.machine.specs.Command.{Outcome, command}
 use Rattle.machine.specs.Run.{Ran, ran, before, run_to_refusal, accepted, opened_words}
-use Rattle.machine.proofs.Laws.Runs.{to_refusal_none, to_refusal-first, opened_next}
+use Rattle.machine.proofs.Laws.Runs.{to_refusal_none, to_refusal-first, accepted_none, accepted_next, opened_next}
 use Rattle.session.specs.Text.{open_line, open_lines, lines_with}
 
 no_lines : (cs : List Command) → open_lines cs [] ≡ []
@@ -21,8 +21,8 @@ no_lines [] = refl
 no_lines (c ∷ cs) = refl
 
 no_run : [] ≡ lines_with (take (accepted []) []) (opened_words [] [])
-unfolding accepted lines_with
-no_run = refl
+unfolding lines_with
+no_run = rw accepted_none
 
 -- a run's first command: it is done, or refused
 module _ (c : Command) (cs : List Command) (o : Outcome) (r : Ran) where
@@ -36,8 +36,8 @@ module _ (c : Command) (cs : List Command) (o : Outcome) (r : Ran) where
   Lines ds t = open_lines ds t.answers ≡ lines_with (take (accepted t.answers) ds) (opened_words ds t.answers)
 
   lines_done : eqb a.number 0 ≡ true → Lines cs r → Lines (c ∷ cs) (whole true)
-  unfolding open_lines lines_with accepted
-  lines_done e h = rw (opened_next c cs a r.answers, e) (by_code (eqb c.code 11))
+  unfolding open_lines lines_with
+  lines_done e h = rw (accepted_next a r.answers, opened_next c cs a r.answers, e) (by_code (eqb c.code 11))
     where
       by_code : (b : Bool)
           → cond (b && true) (open_line c.a a.opened) [] ++ open_lines cs r.answers
@@ -47,17 +47,16 @@ module _ (c : Command) (cs : List Command) (o : Outcome) (r : Ran) where
       by_code false = h
 
   lines_refused : eqb a.number 0 ≡ false → Lines (c ∷ cs) (whole false)
-  unfolding open_lines lines_with accepted
-  lines_refused e = rw (e, and-false (eqb c.code 11)) (no_lines cs)
+  unfolding open_lines lines_with
+  lines_refused e = rw (accepted_next a [], e, and-false (eqb c.code 11)) (no_lines cs)
 
   lines_by : (b : Bool) → eqb a.number 0 ≡ b → Lines cs r → Lines (c ∷ cs) (whole b)
   lines_by true e h = lines_done e h
   lines_by false e h = lines_refused e
 
   done_by : (b : Bool) → eqb a.number 0 ≡ b → accepted r.answers ≤ length cs → accepted (whole b).answers ≤ length (c ∷ cs)
-  unfolding accepted
-  done_by true e h = rw e (omega arith)
-  done_by false e h = rw e (omega arith)
+  done_by true e h = rw (accepted_next a r.answers, e) (omega arith)
+  done_by false e h = rw (accepted_next a [], e) (omega arith)
 
 pub run_lines : (n : ℕ) (cs : List Command) (p : Place) (l : Lent) → let t = (run_to_refusal n cs p l).answers in
     open_lines cs t ≡ lines_with (take (accepted t) cs) (opened_words cs t)
@@ -68,8 +67,7 @@ run_lines n (c ∷ cs) p l =
     (lines_by c cs o (run_to_refusal n cs o.answer.place o.lent) (eqb o.answer.number 0) refl (run_lines n cs o.answer.place o.lent))
 
 pub run-done : (n : ℕ) (cs : List Command) (p : Place) (l : Lent) → accepted (run_to_refusal n cs p l).answers ≤ length cs
-unfolding accepted
-run-done n [] p l = rw to_refusal_none (omega arith)
+run-done n [] p l = rw (to_refusal_none, accepted_none) (omega arith)
 run-done n (c ∷ cs) p l =
     let o = command n c p l in
     rw (to_refusal-first n c cs p l)

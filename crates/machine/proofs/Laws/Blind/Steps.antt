@@ -9,7 +9,7 @@ use Rattle.protocols.specs.Blind.{Observer, Sees, SameShares, Blind}
 use Rattle.protocols.proofs.Claims.{claims}
 use Rattle.machine.specs.declared.code.Code.{Code}
 use Rattle.machine.specs.declared.code.Code.TheVariants.{Store, Add, Subtract, AddConstant, TimesConstant, Multiply, Reshare, Bits, Bit, Equal, Open, Below}
-use Rattle.machine.specs.Given.{Given}
+use Rattle.machine.specs.declared.given.Given.{Given}
 use Rattle.machine.specs.Steps.{both, protocol}
 use Rattle.machine.proofs.Laws.Steps.{GivenAreWords}
 

@@ -3,6 +3,6 @@ use Rattle.std.proofs.Common.{sym, ◌∙◌}
 use Rattle.machine.proofs.Laws.RunTurns.{refused_unsound}
 use Rattle.machine.proofs.command.command.Goals as goal
 
-pub returns-then-not-is_lent_soundly-clause-done : goal.returns-then-not-is_lent_soundly-clause-done
-returns-then-not-is_lent_soundly-clause-done c =
-    rw c.of.ensures (sym (refused_unsound 5 c.args.c c.args.place _ (sym c.is_lent_soundly.ensures ∙ c.if-not-is_lent_soundly.true)))
+pub returns-then-unsound-clause-done : goal.returns-then-unsound-clause-done
+returns-then-unsound-clause-done c =
+    rw c.of.ensures (sym (refused_unsound 5 c.args.c c.args.place _ (sym c.is_lent_soundly-unsound.ensures ∙ c.if-unsound.true)))

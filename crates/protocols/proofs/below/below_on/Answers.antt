@@ -1,25 +1,20 @@
 -- `protocols::below::below_on` meets its contract.
-use Rattle.std.proofs.Common.{◌∙◌, [], refl, sym, ap}
-use Rattle.protocols.specs.Word.{modulus}
+use Rattle.std.proofs.Common.{◌∙◌, [], sym, ap}
 use Rattle.protocols.specs.Shares.{operands}
 use Rattle.protocols.specs.Place.{tapes, lists, counts}
 use Rattle.protocols.specs.Counts.{received}
-use Rattle.protocols.specs.Outcome.{fronts}
 use Rattle.protocols.specs.Lent.{tapes_of, drawn_block}
-use Rattle.protocols.specs.Local.{difference}
-use Rattle.protocols.specs.Bits.{bits}
 use Rattle.protocols.specs.Below.{below}
-use Rattle.protocols.proofs.Laws.Deliveries.{room_lacks, due_fits}
-use Rattle.protocols.proofs.Laws.Puts.{tail_lent, tail_back}
+use Rattle.protocols.proofs.Laws.Deliveries.{room_lacks, due_fits, fronts_written}
 use Rattle.protocols.proofs.Laws.Lent.{rooms}
-use Rattle.protocols.proofs.Laws.Drawn.{delivery_spent, delivery_drawn, block_drawn, bit_behind, first_words, last_words, below_parts}
+use Rattle.protocols.proofs.Laws.Drawn.{spent_delivers, delivery_drawn, block_drawn}
 use Rattle.protocols.proofs.Laws.Counts.{table_at_32}
 use Rattle.protocols.proofs.below.below_on.Goals as goal
 
 pub returns-in_default : goal.returns-in_default
 returns-in_default c =
     let a = c.args in
-    delivery_spent (below 5) (counts 0 18 12 12) table_at_32.below_row.drawn (operands a.u a.v) a.place (tapes_of a.tapes)
+    spent_delivers (below 5) (counts 0 18 12 12) table_at_32.below_row.drawn (operands a.u a.v) a.place (tapes_of a.tapes)
     (sym c.draw_block.ensures ∙ ap drawn_block c.in_default.is) (lists a.one.now a.two.now a.three.now [])
 
 pub returns-then-not-have_room : goal.returns-then-not-have_room
@@ -35,16 +30,9 @@ returns c =
     let l = lists a.one.now a.two.now a.three.now [] in
     let x = operands a.u a.v in
     let w = tapes [] c.in-Some.tape1.now c.in-Some.tape2.now c.in-Some.tape3.now in
-    let u = difference (modulus 5) x in
-    let f = first_words 15 w in
-    let parts = below_parts x w (refl, search, search, search) in
-    let long = table_at_32.bits_row.long u f in
+    let long = table_at_32.below_row.long in
     let room = due_fits 22 28 28 l (rooms 22 28 28 l (cc)) in
-    let word = rw c.difference.ensures at c.rounds_on-word.ensures in
-    let bit = rw (tail_lent, tail_lent, word.0) at c.convert.ensures in
-    simp tail_back
-    (delivery_drawn (below 5) (counts 0 18 12 12) table_at_32.below_row.drawn x a.place (tapes_of a.tapes)
-    (sym c.draw_block.ensures ∙ ap drawn_block c.in-Some.is) (received 22 28 28 0) table_at_32.below_row.long room (
-      bit.0 ∙ sym parts.0,
-      bit_behind (modulus 5) 31 l _ ((bits 5).received u f) (received 22 25 25 0) long word.1 room _ (last_words 15 w) bit.1 ∙ ap (fronts l) (sym parts.1),
-    ))
+    let made = c.on_words.ensures x c.difference-d.ensures in
+    delivery_drawn (below 5) (counts 0 18 12 12) table_at_32.below_row.drawn x a.place (tapes_of a.tapes)
+    (sym c.draw_block.ensures ∙ ap drawn_block c.in-Some.is) (received 22 28 28 0) long room
+    (made.0, fronts_written l ((below 5).received x w) (received 22 28 28 0) (long x w) room made.1)

@@ -10,7 +10,7 @@ returns c =
     let a = c.args in
     let p = a.p in
     let f = word_forms 5 a.round.k a.round.below in
-    let x = rw (c.headless_each.ensures, c.and_shares-both.ensures, c.shifted_each.ensures) at c.zip.ensures in
+    let x = rw (c.others_each.ensures, c.and_shares-both.ensures, c.to_heads_each.ensures) at c.zip.ensures in
     λ i. record {
       p = record { one = (x.0 ∙ f.form_fold p.one p.three) i; two = (x.1 ∙ f.form_fold p.two p.one) i; three = (x.2 ∙ f.form_fold p.three p.two) i };
       q = a.q;

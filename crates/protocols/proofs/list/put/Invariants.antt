@@ -1,0 +1,7 @@
+-- The loop of `put`: what is left of the words, put after the first k.
+use Rattle.std.proofs.Common.{◌≡◌, ◌+◌, length, drop}
+use Rattle.std.proofs.lemmas.List.Edits.{sets}
+use Rattle.protocols.proofs.list.put.Given as goal
+
+abbrev pub invariant-loop-k : goal.invariant-loop-k
+invariant-loop-k l = (length l.list ≡ length l.fn.list) × (sets l.list (l.at + l.k) (drop l.k l.words) ≡ sets l.fn.list l.at l.words)
