@@ -1,6 +1,6 @@
 -- What is lent to a protocol, as the code holds it. (01, 'Handles, tapes and places')
-use Rattle.std.specs.Prelude.{ℕ, ◌≡◌, ◌≤◌, Option, Some, None, List, [], length, map}
-use Rattle.std.specs.Borrow.{Bor}
+use Rattle.std.specs.Prelude.{ℕ, ◌≡◌, ◌≤◌, Option, Some, None, List, [], ◌++◌, length, drop, map}
+use Rattle.std.specs.Borrow.{Bor, MutBor, Fml, Lends, Array, u32}
 use Rattle.protocols.specs.declared.lent.Lists as code_lists
 use Rattle.protocols.specs.declared.lent.Tapes as code_tapes
 use Rattle.protocols.specs.declared.place.Place.{Place}
@@ -35,6 +35,10 @@ Block a b c t = (t.provider ≡ []) × (length t.one ≡ a) × (length t.two ≡
 -- the miners' lists have room for so many words
 abbrev pub Room : ℕ → ℕ → ℕ → Lists → Type 0
 Room a b c l = (a ≤ length l.one) × (b ≤ length l.two) × (c ≤ length l.three)
+
+-- a list's first n words are lent as an array: what stands in it at the end comes before the list's other words
+abbrev pub LendsFront : ℕ → MutBor (List ℕ) → MutBor (List ℕ) → Fml
+LendsFront n l front = Lends (Array u32 0) (Array u32 0) l front (λ words. words ++ drop n l.now)
 
 -- the words that a draw lends
 abbrev pub drawn : Option (Bor (List ℕ) × Place) → Option (List ℕ × Place)

@@ -60,14 +60,8 @@ fn below_on(
         return Err(Shortage::ListFull);
     }
     let d = local::difference(u, v);
-    // `have_room` has shown that there is room for so many words.
-    let (Some(one), Some(two), Some(three)) = (
-        one.first_chunk_mut(),
-        two.first_chunk_mut(),
-        three.first_chunk_mut(),
-    ) else {
-        unreachable!();
-    };
+    // Just so many words of each, which `have_room` has shown to be there.
+    let (one, two, three) = (list::front(one), list::front(two), list::front(three));
     Ok(Done {
         shares: on_words(d, tape1, tape2, tape3, one, two, three),
         place: next,

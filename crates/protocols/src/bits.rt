@@ -255,14 +255,8 @@ fn bits_on(
     if !list::have_room(one, two, three, 22, 25, 25) {
         return Err(Shortage::ListFull);
     }
-    // `have_room` has shown that there is room for so many words.
-    let (Some(one), Some(two), Some(three)) = (
-        one.first_chunk_mut(),
-        two.first_chunk_mut(),
-        three.first_chunk_mut(),
-    ) else {
-        unreachable!();
-    };
+    // Just so many words of each, which `have_room` has shown to be there.
+    let (one, two, three) = (list::front(one), list::front(two), list::front(three));
     Ok(Done {
         shares: on_words(u, tape1, tape2, tape3, one, two, three),
         place: next,

@@ -1,10 +1,11 @@
 // Received words, put into lent lists.
-ghost use Rattle.std.specs.Prelude.{◌≡◌, ◌+◌, ◌≤◌, length, []};
+ghost use Rattle.std.specs.Prelude.{◌≡◌, ◌+◌, ◌≤◌, length, take, []};
+ghost use Rattle.std.specs.Borrow.{sem};
 ghost use Rattle.std.proofs.lemmas.List.Edits.{sets};
 ghost use Rattle.protocols.specs.Counts.{received};
 ghost use Rattle.protocols.specs.Place.{lists};
 ghost use Rattle.protocols.specs.Outcome.{puts, holds};
-ghost use Rattle.protocols.specs.Lent.{lists_of, Same, Room, to_next_in_order};
+ghost use Rattle.protocols.specs.Lent.{lists_of, Same, Room, LendsFront, to_next_in_order};
 
 use super::lent::Lists;
 use super::shares::Shares;
@@ -18,6 +19,19 @@ pub(crate) fn put(list: &mut [u32], at: usize, words: &[u32])
     for (k, word) in words.iter().enumerate() {
         list[at + k] = *word;
     }
+}
+
+// The first N words of a list, to be written.
+#[inline(always)]
+pub(crate) fn front<const N: usize>(list: &mut [u32]) -> &mut [u32; N]
+    requires { N ≤ length list.old }
+    ensures first { result.now ≡ take N list.old }
+    ensures* writes_back { sem 𝓛 (LendsFront N list.entry result) }
+{
+    let Some(words) = list.first_chunk_mut() else {
+        unreachable!();
+    };
+    words
 }
 
 // Whether the miners' lists, lent one by one, have room for so many words.

@@ -6,8 +6,8 @@ use mathlib.Core.List.{List}
 use native.Mathlib.Omega.{arith}
 use borrow.Author.Tests.{leb-true}
 use lib.ListN.{length, take}
-use Rattle.std.specs.Prelude.{nat_lt, nat_le}
 use lib.Dec.{leb, lit≤}
+use Rattle.std.specs.Prelude.{nat_lt, nat_le}
 use Rattle.protocols.specs.declared.place.Place.{Place}
 use Rattle.protocols.specs.Shares.{Miner, one, two, three}
 use Rattle.protocols.specs.Place.{Receiver, miner, controller}
@@ -128,7 +128,7 @@ module _ (p : Place) (l : Lent) (s : sound p (sizes l) l.kinds ≡ true) where
   entered_of Word h e = tt
   entered_of Position h e = tt
 
--- where no number from 6 to 11 applies either, what the command does fits the lists
+-- where no number from 6 to 11 applies either, what the command reads is there, and what it does fits the lists
 pub begun : (x : Code) (c : Command) (p : Place) (l : Lent) → sound p (sizes l) l.kinds ≡ true
     → 0 ≡ refusal 5 (row 5 x) c p (sizes l).one (sizes l).inputs l.kinds → Begun x c p l
 begun x c p l s e =

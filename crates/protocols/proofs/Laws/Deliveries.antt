@@ -120,9 +120,11 @@ fronts_written l w k long fits {a} {b} {c} e =
 all_of : (l w : List ℕ) → length w ≡ length l → sets l 0 w ≡ w
 all_of l w e = begins_with l w (omega (arith, e)) ∙ rw (drop_of_length-le l {i = length w} (omega (arith, e)), append-nil) refl
 
-pub fronts_whole : (l w : Lists) → ((r : Receiver) → length (list r w) ≡ length (list r l)) → fronts l w ≡ w
-fronts_whole l w e = λ i.
-    lists (all_of l.one w.one (e (miner one)) i) (all_of l.two w.two (e (miner two)) i) (all_of l.three w.three (e (miner three)) i) (all_of l.controller w.controller (e controller) i)
+pub fronts_whole : (l w : Lists) (k : Received) → ((r : Receiver) → length (list r w) ≡ due r k)
+    → length l.one ≡ k.one → length l.two ≡ k.two → length l.three ≡ k.three → length l.controller ≡ k.controller → fronts l w ≡ w
+fronts_whole l w k long a b c d = λ i.
+    lists (all_of l.one w.one (long (miner one) ∙ sym a) i) (all_of l.two w.two (long (miner two) ∙ sym b) i)
+    (all_of l.three w.three (long (miner three) ∙ sym c) i) (all_of l.controller w.controller (long controller ∙ sym d) i)
 
 -- ---- lists that receive nothing
 

@@ -24,7 +24,7 @@ use Rattle.protocols.specs.Equal.{compare, begin, folded, fold, folds, equal}
 use Rattle.protocols.specs.Local.{difference}
 use Rattle.protocols.specs.Below.{below}
 use Rattle.protocols.proofs.Laws.Blocks.{tapes_ext}
-use Rattle.protocols.proofs.Laws.Puts.{tail_sets, last_lent, last_back}
+use Rattle.protocols.proofs.Laws.Puts.{tail_sets, all_lent, all_back}
 use Rattle.protocols.proofs.Laws.Deliveries.{fronts_puts, words_lack}
 use Rattle.protocols.proofs.Laws.Draws.{enough_true, draw_some, block-first, block-word}
 use Rattle.protocols.proofs.Laws.Counts.{table_at_32}
@@ -206,7 +206,7 @@ module _ (x : Operands) (w : Tapes) (long : Block 7 6 6 w) (l₀ : Lists) where
 
 module _ (m j : ℕ) (l₀ l : Lists) (w : Lists) (k : Received) (long : (r : Receiver) → length (list r w) ≡ due r k) (are : l ≡ fronts l₀ w)
     (room : (r : Receiver) → due r (plus_received k (received 0 3 3 0)) ≤ length (list r l₀)) where
-  pub bit_behind : (y : Shares) (v : Tapes) {a b : List ℕ} → lists [] a b [] ≡ fronts (lists [] (drop k.two l.two) (drop k.three l.three) []) ((bit m j).received y v)
+  bit_behind : (y : Shares) (v : Tapes) {a b : List ℕ} → lists [] a b [] ≡ fronts (lists [] (drop k.two l.two) (drop k.three l.three) []) ((bit m j).received y v)
       → lists l.one (take k.two l.two ++ a) (take k.three l.three ++ b) l.controller ≡ fronts l₀ (w followed_by (bit m j).received y v)
   unfolding bit
   bit_behind y v {a} {b} h =
@@ -225,10 +225,10 @@ module _ (m j : ℕ) (l₀ l : Lists) (w : Lists) (k : Received) (long : (r : Re
       → lists l.one (take k.two l.two ++ (a ++ drop 3 (drop k.two l.two))) (take k.three l.three ++ (b ++ drop 3 (drop k.three l.three))) l.controller
       ≡ fronts l₀ (w followed_by (bit m j).received y v)
   bit_last e f y v {a} {b} h =
-      let two_long : length l.two ≡ k.two + 3 = ap (λ (x : Lists). length x.two) are ∙ length-sets l₀.two 0 w.two ∙ e in
-      let three_long : length l.three ≡ k.three + 3 = ap (λ (x : Lists). length x.three) are ∙ length-sets l₀.three 0 w.three ∙ f in
-      rw (last_back l.two k.two 3 a two_long, last_back l.three k.three 3 b three_long)
-      (bit_behind y v (rw (last_lent l.two k.two 3 two_long, last_lent l.three k.three 3 three_long) at h))
+      let two_long : length l.two ≤ k.two + 3 = omega (arith, ap (λ (x : Lists). length x.two) are, length-sets l₀.two 0 w.two, e) in
+      let three_long : length l.three ≤ k.three + 3 = omega (arith, ap (λ (x : Lists). length x.three) are, length-sets l₀.three 0 w.three, f) in
+      rw (all_back l.two k.two 3 a two_long, all_back l.three k.three 3 b three_long)
+      (bit_behind y v (rw (all_lent l.two k.two 3 two_long, all_lent l.three k.three 3 three_long) at h))
 
 -- of a block, the first j words of miner 1's with all of the others'; and the last three of miner 1's
 abbrev pub first_words : ℕ → Tapes → Tapes

@@ -66,28 +66,23 @@ puts_next first at k w z l₀ l h e =
 
 -- ---- the tail of a list
 
--- the whole tail is lent
-pub tail_lent : (l : List ℕ) (at : ℕ) → take (length l - at) (drop at l) ≡ drop at l
-tail_lent l at =
-    let n : length (drop at l) ≡ length l - at = length-drop at l in
-    take_all (length l - at) (drop at l) (omega arith)
+-- the n words from a place on are the whole tail, if the list has no more
+pub all_lent : (l : List ℕ) (at n : ℕ) → length l ≤ at + n → take n (drop at l) ≡ drop at l
+all_lent l at n h = let d : length (drop at l) ≡ length l - at = length-drop at l in take_all n (drop at l) (omega (arith, d, h))
 
--- and comes back
-pub tail_back : (l : List ℕ) (at : ℕ) (back : List ℕ) → take at l ++ (back ++ drop (length l - at) (drop at l)) ≡ take at l ++ back
-tail_back l at back =
-    let n : length (drop at l) ≡ length l - at = length-drop at l in
-    let z : drop (length l - at) (drop at l) ≡ [] = drop_of_length-le (drop at l) {i = length l - at} (omega arith) in
-    rw (z, append-nil)
-
--- the last n words of a list of so many more than `at` are its tail
-pub last_lent : (l : List ℕ) (at n : ℕ) → length l ≡ at + n → take n (drop at l) ≡ drop at l
-last_lent l at n e = let d : length (drop at l) ≡ length l - at = length-drop at l in take_all n (drop at l) (omega (arith, d, e))
-
-pub last_back : (l : List ℕ) (at n : ℕ) (back : List ℕ) → length l ≡ at + n → take at l ++ (back ++ drop n (drop at l)) ≡ take at l ++ back
-last_back l at n back e =
+-- and come back
+pub all_back : (l : List ℕ) (at n : ℕ) (back : List ℕ) → length l ≤ at + n → take at l ++ (back ++ drop n (drop at l)) ≡ take at l ++ back
+all_back l at n back h =
     let d : length (drop at l) ≡ length l - at = length-drop at l in
-    let z : drop n (drop at l) ≡ [] = drop_of_length-le (drop at l) {i = n} (omega (arith, d, e)) in
+    let z : drop n (drop at l) ≡ [] = drop_of_length-le (drop at l) {i = n} (omega (arith, d, h)) in
     rw (z, append-nil)
+
+-- the tail by the list's own length
+pub tail_lent : (l : List ℕ) (at : ℕ) → take (length l - at) (drop at l) ≡ drop at l
+tail_lent l at = all_lent l at (length l - at) (omega arith)
+
+pub tail_back : (l : List ℕ) (at : ℕ) (back : List ℕ) → take at l ++ (back ++ drop (length l - at) (drop at l)) ≡ take at l ++ back
+tail_back l at back = all_back l at (length l - at) back (omega arith)
 
 -- and is as long as it was
 pub tail_kept : (l : List ℕ) (at : ℕ) (back : List ℕ) → at ≤ length l → length back ≡ length (take (length l - at) (drop at l))

@@ -1,8 +1,7 @@
 -- `protocols::below::on_words` meets its contract.
 use Rattle.std.proofs.Common.{◌∙◌, [], refl, sym, ap, arith}
 use Rattle.protocols.specs.Word.{modulus}
-use Rattle.protocols.specs.Shares.{one, two, three}
-use Rattle.protocols.specs.Place.{tapes, lists, miner, controller}
+use Rattle.protocols.specs.Place.{tapes, lists}
 use Rattle.protocols.specs.Counts.{received}
 use Rattle.protocols.specs.Outcome.{fronts}
 use Rattle.protocols.specs.Local.{difference}
@@ -28,10 +27,5 @@ returns c x e =
       bit.0 ∙ sym parts.0,
       bit_last (modulus 5) 31 l _ ((bits 5).received u f) (received 22 25 25 0) (table_at_32.bits_row.long u f) word.1 room c.told-two c.told-three _ (last_words 15 w) bit.1
           ∙ ap (fronts l) (sym parts.1)
-          ∙ fronts_whole l ((below 5).received x w) (elim [
-            | miner one ↦ omega (arith, long (miner one), c.told-one)
-            | miner two ↦ omega (arith, long (miner two), c.told-two)
-            | miner three ↦ omega (arith, long (miner three), c.told-three)
-            | controller ↦ long controller
-          ]),
+          ∙ fronts_whole l ((below 5).received x w) (received 22 28 28 0) long c.told-one c.told-two c.told-three refl,
     )

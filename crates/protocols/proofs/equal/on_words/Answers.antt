@@ -1,8 +1,7 @@
 -- `protocols::equal::on_words` meets its contract.
 use Rattle.std.proofs.Common.{◌∙◌, [], refl, sym, ap, arith}
 use Rattle.protocols.specs.Word.{modulus}
-use Rattle.protocols.specs.Shares.{one, two, three}
-use Rattle.protocols.specs.Place.{tapes, lists, miner, controller}
+use Rattle.protocols.specs.Place.{tapes, lists}
 use Rattle.protocols.specs.Counts.{received}
 use Rattle.protocols.specs.Outcome.{fronts}
 use Rattle.protocols.specs.Equal.{folds, equal}
@@ -25,10 +24,5 @@ returns c x e =
       bit.0 ∙ sym parts.0,
       bit_last (modulus 5) 0 l _ ((folds 5 5).received x f) (received 11 12 12 0) (folds_long x f) word.1 room c.told-two c.told-three _ (last_words 7 w) bit.1
           ∙ ap (fronts l) (sym parts.1)
-          ∙ fronts_whole l ((equal 5).received x w) (elim [
-            | miner one ↦ omega (arith, long (miner one), c.told-one)
-            | miner two ↦ omega (arith, long (miner two), c.told-two)
-            | miner three ↦ omega (arith, long (miner three), c.told-three)
-            | controller ↦ long controller
-          ]),
+          ∙ fronts_whole l ((equal 5).received x w) (received 11 15 15 0) long c.told-one c.told-two c.told-three refl,
     )
