@@ -1,5 +1,5 @@
 // What the program `pool` prints, at the front of a buffer; answers the text's length.
-ghost use Rattle.std.specs.Prelude.{◌≡◌};
+ghost use Rattle.std.specs.Prelude.{◌≡◌, ◌≤◌, length, take};
 ghost use Rattle.protocols.specs.Lent.{Same};
 ghost use Rattle.machine.specs.Lent.{SameTables};
 ghost use Rattle.session.specs.Session.{lent_state};
@@ -21,6 +21,7 @@ pub extern "C" fn dinglefork_pool(
     ensures same_tables { SameTables tables.old tables.new }
     ensures same_lists { Same lists.old lists.new }
     ensures printed { rendered result out.new words.new (lent_state tables.new lists.new) ≡ into out.old (spec.pool file.now words.old (lent_state tables.old lists.old)) }
+    ensures within { (result ≤ length out.new) × (result ≡ length (take result out.new)) }
 {
     session::pool::pool(file, words, tables, lists, out)
 }

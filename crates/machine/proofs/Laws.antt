@@ -5,7 +5,6 @@ pub mod Tests
 pub mod Rows
 pub mod Steps
 pub mod Lowest
-pub mod Numbers
 pub mod Refusals
 pub mod Entries
 pub mod Judge
@@ -13,6 +12,7 @@ pub mod Agree
 pub mod RunAgree
 pub mod Runs
 pub mod ToRefusal
+pub mod Transcript
 pub mod OpenedWords
 pub mod ControllerWords
 pub mod Play
@@ -24,3 +24,4 @@ pub mod Blind
 pub mod Sound
 pub mod Threes
 pub mod RunTurns
+pub mod WorkedRuns

@@ -77,7 +77,7 @@ accepted n x c p l =
 -- 'moved on or untouched'
 abbrev pub decided : ℕ → Verdict → Command → Place → Lent → Outcome
 decided n (Accepted x) c p l = accepted n x c p l
-decided n (Refused r) c p l = outcome (answer r p 0) l
+decided n (Refused r) c p l = outcome (answer (number r) p 0) l
 
 unfoldable pub command : ℕ → Command → Place → Lent → Outcome
 command n c p l = decided n (verdict n c p (sizes l) l.kinds) c p l

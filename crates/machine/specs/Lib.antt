@@ -12,4 +12,5 @@ pub mod Run
 pub mod Records
 pub mod Pairing
 pub mod Refusals
+pub mod WorkedRuns
 pub mod Claims

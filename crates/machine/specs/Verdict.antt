@@ -1,6 +1,6 @@
 -- When a command is turned down: the lowest number that applies, and only then. (01, 'When a call is turned down', numbers 4 to 13)
 -- It is told from what is public: the command, the place record, the lengths of all lent lists, and the kinds.
-use Rattle.std.specs.Prelude.{ℕ, zero, suc, ◌-◌, Bool, true, cond, ◌&&◌, ◌||◌, List, length, take, nat_lt, nat_le, nat_eq, Result, Ok, Err}
+use Rattle.std.specs.Prelude.{ℕ, ◌-◌, Bool, true, cond, ◌&&◌, ◌||◌, List, length, take, nat_lt, nat_le, nat_eq, Result, Ok, Err}
 use Rattle.std.specs.List.{list_all}
 use Rattle.protocols.specs.declared.place.Place.{Place}
 use Rattle.protocols.specs.Word.{width}
@@ -10,6 +10,7 @@ use Rattle.protocols.specs.Counts.{received, due}
 use Rattle.machine.specs.declared.code.Command.{Command}
 use Rattle.machine.specs.declared.code.Code.{Code}
 use Rattle.machine.specs.declared.refusal.Refusal.{Refusal}
+use Rattle.machine.specs.declared.refusal.Refusal.TheVariants.{LentUnsoundly, FieldNotZero, HandleNotFilled, WrongKind, PositionOutside, TablesFull, InputsUsed, TapeSpent, ListFull}
 use Rattle.machine.specs.declared.row.Use.{Use}
 use Rattle.machine.specs.declared.row.Use.TheVariants.{Unused, Handle, Word, Position}
 use Rattle.machine.specs.declared.row.Row.{Row}
@@ -18,27 +19,34 @@ use Rattle.machine.specs.Refusal as table
 use Rattle.machine.specs.Table.{find, kind_number, row}
 use Rattle.machine.specs.Lent.{entry}
 
--- accepted, with the command; or turned down, with the number
+-- accepted, with the command; or turned down, with the line of the table, whose number is never 0
 pub data Verdict : Type 0 where
   Accepted : Code → Verdict
-  Refused : ℕ → Verdict
+  Refused : Refusal → Verdict
 
 -- 0, or the number of the refusal
 abbrev pub number : Verdict → ℕ
 number (Accepted x) = 0
-number (Refused r) = r
+number (Refused r) = table.number r
 
--- a test that gives the number r where it fails, and goes on where it holds
-abbrev pub test : ℕ → Bool → Verdict → Verdict
+-- a test that refuses with r where it fails, and goes on where it holds
+abbrev pub test : Refusal → Bool → Verdict → Verdict
 test r holds next = cond holds next (Refused r)
 
--- the same among numbers, 0 where all tests hold; and on from there
-abbrev pub check : ℕ → Bool → ℕ → ℕ
-check r holds next = cond holds next r
+-- tests that know no command yet: Ok where all hold
+abbrev pub Checked : Type 0
+Checked = Result (Unit {0}) Refusal
 
-abbrev pub told : ℕ → Verdict → Verdict
-told zero next = next
-told (suc r) next = Refused (suc r)
+abbrev pub passed : Checked
+passed = Ok tt
+
+abbrev pub check : Refusal → Bool → Checked → Checked
+check r holds next = cond holds next (Err r)
+
+-- and on from there to a verdict
+abbrev pub after_checks : Checked → Verdict → Verdict
+after_checks (Ok x) next = next
+after_checks (Err r) next = Refused r
 
 -- ---- 4: 'share tables and kind list differ in length, a place beyond its list, a filled kind not 1 or 2'
 
@@ -119,32 +127,37 @@ lists_have x p z = every_list (λ r. nat_le (due r x.received) (due r z.received
 -- ---- all of it
 
 -- 6 to 9, by the row
-abbrev pub fields : ℕ → Row → Command → Place → List ℕ → ℕ
-fields n x c p kinds = check 6 (unused_zero x c) (check 7 (handles_filled x p c) (check 8 (kinds_fit x kinds c) (check 9 (in_word n x c) 0)))
+abbrev pub fields : ℕ → Row → Command → Place → List ℕ → Checked
+fields n x c p kinds =
+    check FieldNotZero (unused_zero x c)
+    (check HandleNotFilled (handles_filled x p c)
+    (check WrongKind (kinds_fit x kinds c) (check PositionOutside (in_word n x c) passed)))
 
 -- 10 and 11
-abbrev pub room : Row → Place → ℕ → ℕ → ℕ
-room x p entries inputs = check 10 (tables_have x p entries) (check 11 (inputs_have x p inputs) 0)
+abbrev pub room : Row → Place → ℕ → ℕ → Checked
+room x p entries inputs = check TablesFull (tables_have x p entries) (check InputsUsed (inputs_have x p inputs) passed)
 
 -- 6 to 11
-abbrev pub refusal : ℕ → Row → Command → Place → ℕ → ℕ → List ℕ → ℕ
+abbrev pub refusal : ℕ → Row → Command → Place → ℕ → ℕ → List ℕ → Checked
 refusal n x c p entries inputs kinds =
-    check 6 (unused_zero x c)
-    (check 7 (handles_filled x p c)
-    (check 8 (kinds_fit x kinds c) (check 9 (in_word n x c) (check 10 (tables_have x p entries) (check 11 (inputs_have x p inputs) 0)))))
+    check FieldNotZero (unused_zero x c)
+    (check HandleNotFilled (handles_filled x p c)
+    (check WrongKind (kinds_fit x kinds c)
+    (check PositionOutside (in_word n x c)
+    (check TablesFull (tables_have x p entries) (check InputsUsed (inputs_have x p inputs) passed)))))
 
 -- 12 and 13
 abbrev pub supplied : Row → Place → Sizes → Verdict → Verdict
-supplied x p z next = test 12 (tapes_have x p z) (test 13 (lists_have x p z) next)
+supplied x p z next = test TapeSpent (tapes_have x p z) (test ListFull (lists_have x p z) next)
 
 -- a known command, by its row
 unfoldable pub judged : ℕ → Row → Command → Place → Sizes → List ℕ → Verdict → Verdict
-judged n x c p z kinds next = told (refusal n x c p z.one z.inputs kinds) (supplied x p z next)
+judged n x c p z kinds next = after_checks (refusal n x c p z.one z.inputs kinds) (supplied x p z next)
 
 -- 5: 'code not 1 to 12'
 abbrev pub looked_up : ℕ → Result Code Refusal → Command → Place → Sizes → List ℕ → Verdict
 looked_up n (Ok x) c p z kinds = judged n (row n x) c p z kinds (Accepted x)
-looked_up n (Err r) c p z kinds = Refused (table.number r)
+looked_up n (Err r) c p z kinds = Refused r
 
 unfoldable pub verdict : ℕ → Command → Place → Sizes → List ℕ → Verdict
-verdict n c p z kinds = test 4 (sound p z kinds) (looked_up n (find c.code) c p z kinds)
+verdict n c p z kinds = test LentUnsoundly (sound p z kinds) (looked_up n (find c.code) c p z kinds)

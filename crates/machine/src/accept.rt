@@ -25,7 +25,7 @@ use super::{play, row};
 use protocols::lent::{Lists, Tapes};
 use protocols::open;
 use protocols::outcome::{Done, Shortage};
-use protocols::place::{Place, Received};
+use protocols::place::Place;
 use protocols::shares::Shares;
 
 // The opened word: only an open has words for the controller.
@@ -39,45 +39,23 @@ fn opened(x: Row, s: Shares) -> u32
     0
 }
 
-// Handles, inputs and received words move on with the row; the draws moved the rest.
-fn counted(p: Place, x: Row) -> Place
-    requires { Fits p x }
-    ensures { result ≡ spec.counted p x }
-{
-    let at = p.received;
-    let more = x.received;
-    Place {
-        handles: p.handles + x.values,
-        inputs: p.inputs + x.inputs,
-        received: Received {
-            one: at.one + more.one,
-            two: at.two + more.two,
-            three: at.three + more.three,
-            controller: at.controller + more.controller,
-        },
-        ..p
-    }
-}
-
 // A ring value that the miners made alone becomes the new handle's.
+#[tactic(auto, using(crate::proofs::Laws::Accept::one_more_fits))]
 #[inline(always)]
 fn store_value(shares: Shares, place: Place, tables: &mut Tables) -> Accepted
     requires { (place.handles + 1 < 2 ^ 64) × HaveEntries (place.handles + 1) (tables_of tables.old) tables.old.kinds.now }
     ensures same { SameTables tables.old tables.new }
     ensures left { left (answer_of place (Ok result)) (stored_of tables.new) ≡ left (answer 0 (one_more place) 0) (append 1 place.handles shares Kind.RingValue (tables_of tables.old) tables.old.kinds.now) }
 {
-    let at = place.handles;
-    tables.store(1, at, shares, Kind::RingValue);
+    tables.store(1, place.handles, shares, Kind::RingValue);
     Accepted {
-        place: Place {
-            handles: at + 1,
-            ..place
-        },
+        place: place.with_handles(1),
         opened: 0,
     }
 }
 
 // What a protocol made becomes the new handle's, if one is due; what it turned down changes nothing.
+#[tactic(auto, using(crate::proofs::Laws::Accept::counted_fits))]
 #[inline(always)]
 fn finish(
     x: Row,
@@ -92,7 +70,7 @@ fn finish(
     let done = played?;
     tables.store(x.values, place.handles, done.shares, x.kind);
     Ok(Accepted {
-        place: counted(done.place, x),
+        place: done.place.with_more(x.values, x.inputs, x.received),
         opened: opened(x, done.shares),
     })
 }

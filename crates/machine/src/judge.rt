@@ -1,13 +1,12 @@
 // When a command is turned down, up to number 11; a protocol itself tells 12 and 13. Nothing here writes, and nothing sees a share, an
 // input, a tape word or a received word.
-ghost use Rattle.std.specs.Prelude.{◌≡◌, ◌&&◌, ◌≤◌, length, nat_le, nat_lt, nat_eq, cond, Some, None};
+ghost use Rattle.std.specs.Prelude.{◌≡◌, ◌&&◌, ◌≤◌, length, nat_le, nat_lt, nat_eq, cond, Some, None, Err};
 ghost use Rattle.protocols.specs.Word.{modulus, sub};
 ghost use Rattle.protocols.specs.Place.{count, every};
 ghost use Rattle.protocols.specs.Counts.{due};
-ghost use Rattle.machine.specs.Refusal.{number_of};
 ghost use Rattle.machine.specs.Table.{kind_number, row};
 ghost use Rattle.machine.specs.Lent.{entry};
-ghost use Rattle.machine.specs.Verdict.{same_length, within, is_kind, are_kinds, every_list, sound, holding, check};
+ghost use Rattle.machine.specs.Verdict.{same_length, within, is_kind, are_kinds, every_list, sound, holding, check, passed};
 ghost use Rattle.machine.specs.Verdict as spec;
 
 use super::code::{Code, Command};
@@ -85,7 +84,8 @@ fn kind_of(filled: &[u32], h: u32) -> Option<u32>
 
 // One handle.
 fn operand(h: u32, kind: Kind, filled: &[u32]) -> Result<(), Refusal>
-    ensures { number_of result ≡ check 7 (spec.filled (holding filled.now) h) (check 8 (nat_eq (entry filled.now h) (kind_number kind)) 0) }
+    ensures { result ≡ check Refusal.HandleNotFilled (spec.filled (holding filled.now) h)
+        (check Refusal.WrongKind (nat_eq (entry filled.now h) (kind_number kind)) passed) }
 {
     let found = kind_of(filled, h).ok_or(Refusal::HandleNotFilled)?;
     if found != u32::from(kind) {
@@ -96,7 +96,9 @@ fn operand(h: u32, kind: Kind, filled: &[u32]) -> Result<(), Refusal>
 
 // Two handles of ring values.
 fn pair(c: Command, filled: &[u32]) -> Result<(), Refusal>
-    ensures { number_of result ≡ check 7 (spec.filled (holding filled.now) c.a && spec.filled (holding filled.now) c.b) (check 8 (nat_eq (entry filled.now c.a) 1 && nat_eq (entry filled.now c.b) 1) 0) }
+    ensures { result ≡ check Refusal.HandleNotFilled
+        (spec.filled (holding filled.now) c.a && spec.filled (holding filled.now) c.b)
+        (check Refusal.WrongKind (nat_eq (entry filled.now c.a) 1 && nat_eq (entry filled.now c.b) 1) passed) }
 {
     let kind_a = kind_of(filled, c.a).ok_or(Refusal::HandleNotFilled)?;
     let kind_b = kind_of(filled, c.b).ok_or(Refusal::HandleNotFilled)?;
@@ -109,7 +111,9 @@ fn pair(c: Command, filled: &[u32]) -> Result<(), Refusal>
 
 // One handle of a ring value, b being unused.
 fn single(c: Command, filled: &[u32]) -> Result<(), Refusal>
-    ensures { number_of result ≡ check 6 (nat_eq c.b 0) (check 7 (spec.filled (holding filled.now) c.a) (check 8 (nat_eq (entry filled.now c.a) 1) 0)) }
+    ensures { result ≡ check Refusal.FieldNotZero (nat_eq c.b 0)
+        (check Refusal.HandleNotFilled (spec.filled (holding filled.now) c.a)
+        (check Refusal.WrongKind (nat_eq (entry filled.now c.a) 1) passed)) }
 {
     if c.b != 0 {
         return Err(Refusal::FieldNotZero);
@@ -119,7 +123,9 @@ fn single(c: Command, filled: &[u32]) -> Result<(), Refusal>
 
 // One handle of a bit word, and a position in it.
 fn position(c: Command, filled: &[u32]) -> Result<(), Refusal>
-    ensures { number_of result ≡ check 7 (spec.filled (holding filled.now) c.a) (check 8 (nat_eq (entry filled.now c.a) 2) (check 9 (nat_lt c.b 32) 0)) }
+    ensures { result ≡ check Refusal.HandleNotFilled (spec.filled (holding filled.now) c.a)
+        (check Refusal.WrongKind (nat_eq (entry filled.now c.a) 2)
+        (check Refusal.PositionOutside (nat_lt c.b 32) passed)) }
 {
     operand(c.a, Kind::BitWord, filled)?;
     if 32 <= c.b {
@@ -130,7 +136,7 @@ fn position(c: Command, filled: &[u32]) -> Result<(), Refusal>
 
 // No field is used.
 fn unused(c: Command) -> Result<(), Refusal>
-    ensures { number_of result ≡ check 6 (nat_eq c.a 0 && nat_eq c.b 0) 0 }
+    ensures { result ≡ check Refusal.FieldNotZero (nat_eq c.a 0 && nat_eq c.b 0) passed }
 {
     if (c.a != 0) | (c.b != 0) {
         return Err(Refusal::FieldNotZero);
@@ -141,7 +147,7 @@ fn unused(c: Command) -> Result<(), Refusal>
 // By command: its fields. (A match and no table of closures, here and in `room`: each arm is proved to be its row's tests.)
 #[inline(always)]
 fn fields(code: Code, c: Command, filled: &[u32]) -> Result<(), Refusal>
-    ensures { number_of result ≡ spec.fields 5 (row 5 code) c (holding filled.now) filled.now }
+    ensures { result ≡ spec.fields 5 (row 5 code) c (holding filled.now) filled.now }
 {
     match code {
         Code::Store => unused(c),
@@ -156,7 +162,7 @@ fn fields(code: Code, c: Command, filled: &[u32]) -> Result<(), Refusal>
 
 // An entry for the new value.
 fn value_due(p: Place, entries: usize) -> Result<(), Refusal>
-    ensures { number_of result ≡ check 10 (nat_lt p.handles entries) 0 }
+    ensures { result ≡ check Refusal.TablesFull (nat_lt p.handles entries) passed }
 {
     if entries <= p.handles {
         return Err(Refusal::TablesFull);
@@ -166,7 +172,7 @@ fn value_due(p: Place, entries: usize) -> Result<(), Refusal>
 
 // An input.
 fn input_due(p: Place, inputs: usize) -> Result<(), Refusal>
-    ensures { number_of result ≡ check 11 (nat_lt p.inputs inputs) 0 }
+    ensures { result ≡ check Refusal.InputsUsed (nat_lt p.inputs inputs) passed }
 {
     if inputs <= p.inputs {
         return Err(Refusal::InputsUsed);
@@ -176,7 +182,7 @@ fn input_due(p: Place, inputs: usize) -> Result<(), Refusal>
 
 // By command: the entry and the input that it takes.
 fn room(code: Code, p: Place, entries: usize, inputs: usize) -> Result<(), Refusal>
-    ensures { number_of result ≡ spec.room (row 5 code) p entries inputs }
+    ensures { result ≡ spec.room (row 5 code) p entries inputs }
 {
     match code {
         Code::Open => Ok(()),
@@ -199,7 +205,7 @@ pub(crate) fn fields_and_room(
     kinds: &[u32],
 ) -> Result<(), Refusal>
     requires { p.handles ≤ length kinds.now }
-    ensures { number_of result ≡ spec.refusal 5 (row 5 code) c p entries inputs kinds.now }
+    ensures { result ≡ spec.refusal 5 (row 5 code) c p entries inputs kinds.now }
 {
     fields(code, c, &kinds[..p.handles])?;
     room(code, p, entries, inputs)

@@ -12,6 +12,7 @@ pub mod judge;
 pub mod kind;
 pub mod lent;
 pub mod play;
+pub mod promises;
 pub mod refusal;
 pub mod row;
 pub mod run;

@@ -1,8 +1,8 @@
 // Commands on lent lists, up to the first that is refused.
-ghost use Rattle.std.specs.Prelude.{◌≡◌, true, nat_lt};
+ghost use Rattle.std.specs.Prelude.{◌≡◌, true, cond, nat_lt};
 ghost use Rattle.protocols.specs.Lent.{Same};
 ghost use Rattle.machine.specs.Lent.{lent_of, SameTables, sizes};
-ghost use Rattle.machine.specs.Verdict.{sound, check};
+ghost use Rattle.machine.specs.Verdict.{sound};
 ghost use Rattle.machine.specs.Command.{answer};
 ghost use Rattle.machine.specs.Run.{commands_of, run_to_refusal, ended, end_of};
 
@@ -16,7 +16,7 @@ use protocols::place::Place;
 
 // Number 4 refuses the first command, if there is one.
 fn refuse_first(words: usize, start: Place) -> Run
-    ensures { (result.done ≡ 0) × (result.last ≡ answer (check 4 (nat_lt words 3) 0) start 0) }
+    ensures { (result.done ≡ 0) × (result.last ≡ answer (cond (nat_lt words 3) 0 4) start 0) }
 {
     let answered = if words < 3 {
         Ok(Accepted {

@@ -8,7 +8,6 @@ pub mod Draws
 pub mod Perform
 pub mod Lent
 pub mod Drawn
-pub mod Returns
 pub mod Source
 pub mod Shared
 pub mod Carry
@@ -20,4 +19,5 @@ pub mod RingCombine
 pub mod BitsCombine
 pub mod Blind
 pub mod Counts
+pub mod Transcripts
 pub mod Worked

@@ -34,11 +34,13 @@ s₂₃ u t = bit_xor (b₁₂ t) u.two
 abbrev pub s₃₂ : Shares → Tapes → ℕ
 s₃₂ u t = bit_xor (b₁₃ t) u.three
 
--- 'With s the exclusive or of those two, the shares are 0, m12, m13 if s = 0, and 0, 1 - m12, -m13 if s = 1'
+-- 'With s the exclusive or of those two, the shares are 0, m12, m13 if s = 0, and 0, 1 - m12, -m13 if s = 1': of m12,
+-- m13 as x, y
+abbrev pub chosen : ℕ → ℕ → ℕ → ℕ → Shares
+chosen m s x y = shares 0 (choose s x (sub m 1 x)) (choose s y (sub m 0 y))
+
 abbrev pub converted : ℕ → Shares → Tapes → Shares
-converted m u t =
-    let s = bit_xor (s₂₃ u t) (s₃₂ u t) in
-    shares 0 (choose s (m₁₂ t) (sub m 1 (m₁₂ t))) (choose s (m₁₃ m u t) (sub m 0 (m₁₃ m u t)))
+converted m u t = chosen m (bit_xor (s₂₃ u t) (s₃₂ u t)) (m₁₂ t) (m₁₃ m u t)
 
 -- 'Miner 2 receives m12, b12; miner 3 receives m13, b13', and then the exchange
 unfoldable pub bit : ℕ → ℕ → Protocol Shares Shares

@@ -1,16 +1,17 @@
--- What this crate claims of the protocols, as types; proofs/Claims.antt proves each.
--- Everywhere m is a modulus and n stands for words of 2 ^ n bits; nothing is assumed of shares and drawn words but that each is a word.
-use Rattle.std.specs.Prelude.{◌≡◌, ℕ, suc, ◌+◌, ◌-◌, ◌*◌, ◌/◌, ◌^◌, ◌<◌, ◌≤◌, cond, ◌++◌, length, drop, ◌==◌}
+-- What this crate claims of the protocols, as statements; each is promised by a function of src/promises.rt, whose
+-- contract it is. Everywhere m is a modulus and n stands for words of 2 ^ n bits; nothing is assumed of shares and
+-- drawn words but that each is a word.
+use Rattle.std.specs.Prelude.{◌≡◌, ℕ, suc, ◌+◌, ◌-◌, ◌*◌, ◌/◌, ◌^◌, ◌<◌, ◌≤◌, cond, [], ◌∷◌, ◌++◌, length, take, drop, slice_index, bit_xor, ◌==◌, List, Some, None}
 use Rattle.protocols.specs.declared.place.Party.{Party}
 use Rattle.protocols.specs.declared.place.Drawn.{Drawn}
 use Rattle.protocols.specs.declared.place.Received.{Received}
 use Rattle.protocols.specs.declared.place.Place.{Place}
 use Rattle.protocols.specs.declared.shares.Shares.{Shares}
-use Rattle.protocols.specs.Word.{width, modulus, add, sub, mul, bit_at}
-use Rattle.protocols.specs.Shares.{AreWords, Operands, sum_of, xor_of}
-use Rattle.protocols.specs.Place.{Tapes, tape, Lists, Receiver, list, count, counts, in_order, advance, block}
+use Rattle.protocols.specs.Word.{width, modulus, add, sub, mul, bit_at, low}
+use Rattle.protocols.specs.Shares.{AreWords, Operands, shares, sum_of, xor_of}
+use Rattle.protocols.specs.Place.{Tapes, tape, Lists, lists, Receiver, list, count, counts, in_order, advance, block, with_count, draw, draw_answer}
 use Rattle.protocols.specs.Protocol.{Protocol, locally, done, spent, perform}
-use Rattle.protocols.specs.Outcome.{finished, refused, delivered, delivery, fronts}
+use Rattle.protocols.specs.Outcome.{delivery, fronts}
 use Rattle.protocols.specs.Store.{store}
 use Rattle.protocols.specs.Local.{sum, difference, multiple, shifted}
 use Rattle.protocols.specs.Reshare.{reshare}
@@ -24,14 +25,14 @@ use Rattle.protocols.specs.Contents.{Contents}
 use Rattle.protocols.specs.Counts.{Counted, received}
 use Rattle.protocols.specs.Blind.{Observer, SameShares, SameOperands, SameOpened, Blind}
 use Rattle.protocols.specs.WordForm.{word_s, word_p, word_fold}
-use Rattle.protocols.specs.Worked.{Worked}
 
 abbrev pub OperandsAreWords : ℕ → Operands → Type 0
 OperandsAreWords m x = AreWords m x.u × AreWords m x.v
 
 -- ---- 1. New shares combine to the right word, whatever is drawn.
 
--- over any modulus
+-- promised by `ring_combines`: over any modulus m above 0 the new shares of each ring protocol add up to the right
+-- word, and the shares that an opening shows the controller add up to the word that is opened
 pub record RingCombines (m : ℕ) : Type 0 where
   pub store_combines : (v : ℕ) → v < m → (b : Tapes) → sum_of m ((store m).result v b) ≡ v
   pub sum_combines : (x : Operands) → sum_of m (sum m x) ≡ add m (sum_of m x.u) (sum_of m x.v)
@@ -44,7 +45,8 @@ pub record RingCombines (m : ℕ) : Type 0 where
   -- those three shares are what the controller receives
   pub opening_shown : (u : Shares) (b : Tapes) → ((opening m).received u b).controller ≡ in_order ((opening m).result u b)
 
--- over words of 2 ^ n bits
+-- promised by `bits_combine`: on words of 2 ^ n bits the new shares of Bit, Bits, Equal and Below give the bit, the
+-- word, 1 exactly where the operands are equal, and the highest bit of their difference
 pub record BitsCombine (n : ℕ) : Type 0 where
   pub bit_combines : (j : ℕ) (u : Shares) (b : Tapes) → sum_of (modulus n) ((bit (modulus n) j).result u b) ≡ bit_at (xor_of u) j
   pub bits_combines : (u : Shares) (b : Tapes) → Contents (modulus n) (bits n).draws b
@@ -54,15 +56,14 @@ pub record BitsCombine (n : ℕ) : Type 0 where
   pub below_combines : (x : Operands) (b : Tapes) → Contents (modulus n) (below n).draws b
       → sum_of (modulus n) ((below n).result x b) ≡ bit_at (sub (modulus n) (sum_of (modulus n) x.u) (sum_of (modulus n) x.v)) (width n - 1)
 
-abbrev pub Combines : Type 0
-Combines = ((m : ℕ) → 0 < m → RingCombines m) × ((n : ℕ) → BitsCombine n)
-
 -- ---- 2. Each protocol draws and delivers exactly the counts of document 01's table, and every word that it makes is a word.
 
 -- a row: the words received by miners 1, 2, 3 and controller, and the words drawn by provider and miners 1, 2, 3
 abbrev pub Row : ℕ → {S : Type 0} → Protocol S Shares → (S → Type 0) → Received → Drawn → Type 0
 Row n f Good k d = Counted (modulus n) f Good (AreWords (modulus n)) d k
 
+-- promised by `table`: each protocol on words of 2 ^ n bits draws and delivers exactly its row's counts, and all that
+-- it makes of words are words
 pub record Table (n : ℕ) : Type 0 where
   pub store_row : Row n (store (modulus n)) (λ v. v < modulus n) (received 1 1 1 0) (counts 2 0 0 0)
   pub sum_row : Row n (locally (sum (modulus n))) (OperandsAreWords (modulus n)) (received 0 0 0 0) (counts 0 0 0 0)
@@ -77,7 +78,7 @@ pub record Table (n : ℕ) : Type 0 where
   pub opening_row : Row n (opening (modulus n)) (AreWords (modulus n)) (received 1 1 1 3) (counts 0 1 1 1)
   pub below_row : Row n (below n) (OperandsAreWords (modulus n)) (received (2 + 4 * n) (8 + 4 * n) (8 + 4 * n) 0) (counts 0 (8 + 2 * n) (2 + 2 * n) (2 + 2 * n))
 
--- the rows that depend on the width, at 32 bits
+-- promised by `table_at_32`: the rows that depend on the width, as numbers at 32 bits
 pub record TableAt32 : Type 0 where
   pub bits_row : Row 5 (bits 5) (AreWords (modulus 5)) (received 22 25 25 0) (counts 0 15 12 12)
   pub equal_row : Row 5 (equal 5) (OperandsAreWords (modulus 5)) (received 11 15 15 0) (counts 0 10 6 6)
@@ -85,6 +86,8 @@ pub record TableAt32 : Type 0 where
 
 -- ---- 3. Each protocol is blind for a miner, for the controller, and for a miner that is controller too.
 
+-- promised by `blind_protocols`: what the observer o receives and holds depends on the operands by nothing but what it
+-- may know; an opening alone tells the controller the opened word
 pub record BlindProtocols (n : ℕ) (o : Observer) : Type 0 where
   pub store_blind : Blind (modulus n) o (store (modulus n)) (λ v. v < modulus n) (λ v v'. Unit {0}) (SameShares o)
   pub sum_blind : Blind (modulus n) o (locally (sum (modulus n))) (OperandsAreWords (modulus n)) (SameOperands o) (SameShares o)
@@ -101,12 +104,14 @@ pub record BlindProtocols (n : ℕ) (o : Observer) : Type 0 where
 
 -- ---- 4. The code's masks and shifts are the position-wise rounds, for every round k of every width.
 
+-- promised by `word_forms`: round k on whole words, by masks and shifts, is the round position by position
 pub record WordForms (n k : ℕ) : Type 0 where
   pub form_s : (p p' s s' : ℕ) → s < modulus n → word_s n k p p' s s' ≡ round_s (width n) k p p' s s'
   pub form_p : (p p' : ℕ) → word_p n k p p' ≡ round_p (width n) k p p'
   pub form_fold : (p p' : ℕ) → word_fold n k p p' ≡ fold_share (width n) k p p'
 
--- 01: a position takes from 'the highest lower position whose bit k is clear and whose higher bits agree'
+-- promised by `source_is`: in round k position j takes from the highest lower position whose bit k is clear and whose
+-- higher bits agree
 pub record SourceIs (k j : ℕ) : Type 0 where
   pub lower : source k j < j
   pub clear : bit_at (source k j) k ≡ 0
@@ -115,32 +120,108 @@ pub record SourceIs (k j : ℕ) : Type 0 where
 
 -- ---- 5. On lent tapes a protocol is spent exactly when a tape has too few words left, and tapes that it does not draw from do not count.
 
+-- promised by `draw_is`: a draw of k words is 0, the next k words and the place moved on by them, or 12, no words and
+-- the place as it was, exactly where the tape has fewer words left; so are the code's answers read
+pub record DrawIs (k : ℕ) (i : Party) (l : List ℕ) (p : Place) : Type 0 where
+  pub drawn_if : k ≤ length l - count i p.drawn
+      → draw k i l p
+      ≡ record {
+        number = 0;
+        words = Some (take k (drop (count i p.drawn) l));
+        place = record p { drawn = with_count i (count i p.drawn + k) p.drawn };
+      }
+  pub spent_if : length l - count i p.drawn < k → draw k i l p ≡ record { number = 12; words = None; place = p }
+  pub words_answered : (w : List ℕ) (q : Place)
+      → draw_answer p (Some (w, q)) ≡ record { number = 0; words = Some w; place = q }
+  pub spent_answered : draw_answer {T = List ℕ} p None ≡ record { number = 12; words = None; place = p }
+
 -- a party has fewer words left at the place than are to be drawn
 abbrev pub Lacks : Drawn → Place → Tapes → Party → Type 0
 Lacks n p t i = length (tape i t) - count i p.drawn < count i n
 
+-- promised by `on_tapes`: on lent tapes a protocol is spent exactly where a tape has fewer words left than it draws,
+-- else it is done on exactly the next words, and tapes that it does not draw from do not count
 pub record OnTapes {S T : Type 0} (f : Protocol S T) (s : S) (p : Place) (t : Tapes) : Type 0 where
   pub spent_if : (i : Party) → Lacks f.draws p t i → perform f s p t ≡ spent
   pub done_if : ((i : Party) → ¬ Lacks f.draws p t i)
       → let b = block f.draws p t in perform f s p t ≡ done (f.result s b) (f.received s b) (advance p f.draws)
+  -- the words drawn are those of each tape from the place on, and by them alone the place is moved
+  pub next_words : (i : Party) → tape i (block f.draws p t) ≡ take (count i f.draws) (drop (count i p.drawn) (tape i t))
+  pub next_place :
+      let n = f.draws in
+      let d = p.drawn in
+      advance p n ≡ record {
+        handles = p.handles;
+        inputs = p.inputs;
+        drawn = counts (d.provider + n.provider) (d.one + n.one) (d.two + n.two) (d.three + n.three);
+        received = p.received;
+      }
   pub other_tapes : (t' : Tapes) → ((i : Party) → 0 < count i f.draws → tape i t ≡ tape i t') → perform f s p t ≡ perform f s p t'
 
--- The delivery of what a protocol made: number 13 exactly when a list lacks room, and then nothing changes; otherwise every list begins with
--- its words, and the rest of it is as it was.
+-- promised by `delivers`: what a protocol made is turned down with number 13 exactly where a list lacks room, and then
+-- nothing changes; otherwise every list begins with its words, and the rest of it is as it was
 pub record Delivers (p : Place) (l : Lists) (s : Shares) (w : Lists) (q : Place) : Type 0 where
-  pub full_if : (r : Receiver) → length (list r l) < length (list r w) → delivery p (done s w q) l ≡ delivered (refused 13 p) l
-  pub done_if : ((r : Receiver) → length (list r w) ≤ length (list r l)) → delivery p (done s w q) l ≡ delivered (finished s q) (fronts l w)
+  pub full_if : (r : Receiver) → length (list r l) < length (list r w)
+      → delivery p (done s w q) l
+      ≡ record { outcome = record { number = 13; shares = shares 0 0 0; place = p }; lists = l }
+  pub done_if : ((r : Receiver) → length (list r w) ≤ length (list r l))
+      → delivery p (done s w q) l
+      ≡ record { outcome = record { number = 0; shares = s; place = q }; lists = fronts l w }
   pub begins : ((r : Receiver) → length (list r w) ≤ length (list r l)) → (r : Receiver) → list r (fronts l w) ≡ list r w ++ drop (length (list r w)) (list r l)
+  -- a spent protocol: number 12, the place and every list as they were
+  pub spent_if : delivery p spent l
+      ≡ record { outcome = record { number = 12; shares = shares 0 0 0; place = p }; lists = l }
 
--- ---- all of it
+-- ---- 6. Which words each party receives, and in which order.
 
-pub record Claims : Type 1 where
-  pub combine : Combines
-  pub table : (n : ℕ) → Table n
-  pub table_at_32 : TableAt32
-  pub blind : (n : ℕ) (o : Observer) → BlindProtocols n o
-  pub word_forms : (n k : ℕ) → k < n → WordForms n k
-  pub sources : (k j : ℕ) → bit_at j k ≡ 1 → SourceIs k j
-  pub on_tapes : {S T : Type 0} (f : Protocol S T) (s : S) (p : Place) (t : Tapes) → OnTapes f s p t
-  pub deliveries : (p : Place) (l : Lists) (s : Shares) (w : Lists) (q : Place) → Delivers p l s w q
-  pub worked : Worked
+-- promised by `transcripts`: the words that each party receives of store, reshare, multiply, an opening and Bit,
+-- written out over the operands u, v and the words drawn
+pub record Transcripts (m : ℕ) : Type 0 where
+  -- the provider's two words, and what is left of the input v
+  pub store_words : (v : ℕ) (b : Tapes) →
+      let s₁ = slice_index b.provider 0 in
+      let s₂ = slice_index b.provider 1 in
+      (store m).received v b ≡ lists (s₁ ∷ []) (s₂ ∷ []) (sub m (sub m v s₁) s₂ ∷ []) []
+  -- each miner's mask, at the next miner
+  pub reshare_words : (u : Shares) (b : Tapes) →
+      let r₁ = slice_index b.one 0 in
+      let r₂ = slice_index b.two 0 in
+      let r₃ = slice_index b.three 0 in
+      (reshare m).received u b ≡ lists (r₃ ∷ []) (r₁ ∷ []) (r₂ ∷ []) []
+  -- each miner's masks r, s and then its masked shares x, y, at the next miner
+  pub multiply_words : (o : Operands) (b : Tapes) →
+      let u = o.u in
+      let v = o.v in
+      let r₁ = slice_index b.one 0 in
+      let s₁ = slice_index b.one 1 in
+      let r₂ = slice_index b.two 0 in
+      let s₂ = slice_index b.two 1 in
+      let r₃ = slice_index b.three 0 in
+      let s₃ = slice_index b.three 1 in
+      let x₁ = sub m (add m u.one r₁) r₃ in
+      let y₁ = sub m (add m v.one s₁) s₃ in
+      let x₂ = sub m (add m u.two r₂) r₁ in
+      let y₂ = sub m (add m v.two s₂) s₁ in
+      let x₃ = sub m (add m u.three r₃) r₂ in
+      let y₃ = sub m (add m v.three s₃) s₂ in
+      (multiply m).received o b ≡ lists (r₃ ∷ s₃ ∷ x₃ ∷ y₃ ∷ []) (r₁ ∷ s₁ ∷ x₁ ∷ y₁ ∷ []) (r₂ ∷ s₂ ∷ x₂ ∷ y₂ ∷ []) []
+  -- each miner's mask at the next miner, and the fresh shares at the controller
+  pub opening_words : (u : Shares) (b : Tapes) →
+      let r₁ = slice_index b.one 0 in
+      let r₂ = slice_index b.two 0 in
+      let r₃ = slice_index b.three 0 in
+      let x₁ = sub m (add m u.one r₁) r₃ in
+      let x₂ = sub m (add m u.two r₂) r₁ in
+      let x₃ = sub m (add m u.three r₃) r₂ in
+      (opening m).received u b ≡ lists (r₃ ∷ []) (r₁ ∷ []) (r₂ ∷ []) (x₁ ∷ x₂ ∷ x₃ ∷ [])
+  -- of bit j of the shares: what miner 1 deals to miners 2 and 3, and then what these send one another
+  pub bit_words : (j : ℕ) (u : Shares) (b : Tapes) →
+      let u₁ = bit_at u.one j in
+      let u₂ = bit_at u.two j in
+      let u₃ = bit_at u.three j in
+      let b₁ = low (slice_index b.one 0) in
+      let m₁₂ = slice_index b.one 1 in
+      let b₁₂ = low (slice_index b.one 2) in
+      let m₁₃ = sub m (bit_xor b₁ u₁) m₁₂ in
+      let b₁₃ = bit_xor b₁ b₁₂ in
+      (bit m j).received u b ≡ lists [] (m₁₂ ∷ b₁₂ ∷ bit_xor b₁₃ u₃ ∷ []) (m₁₃ ∷ b₁₃ ∷ bit_xor b₁₂ u₂ ∷ []) []

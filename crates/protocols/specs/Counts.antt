@@ -1,7 +1,8 @@
 -- What a protocol draws, delivers and makes. (01, The commands: the table's columns 'received' and 'drawn')
-use Rattle.std.specs.Prelude.{◌≡◌, ℕ, ◌+◌, length}
+use Rattle.std.specs.Prelude.{◌≡◌, ℕ, ◌+◌, ◌%◌, ◌^◌, length}
 use Rattle.protocols.specs.declared.place.Drawn.{Drawn}
 use Rattle.protocols.specs.declared.place.Received.{Received}
+use Rattle.protocols.specs.declared.place.Place.{Place}
 use Rattle.protocols.specs.Shares.{one, two, three}
 use Rattle.protocols.specs.Place.{Tapes, Receiver, miner, controller, list}
 use Rattle.protocols.specs.Protocol.{Protocol}
@@ -14,6 +15,24 @@ received a b c d = record { one = a; two = b; three = c; controller = d }
 -- added up
 abbrev pub plus_received : Received → Received → Received
 plus_received j k = received (j.one + k.one) (j.two + k.two) (j.three + k.three) (j.controller + k.controller)
+
+-- a count and more of it, as a 64-bit word has it
+abbrev pub counted_on : ℕ → ℕ → ℕ
+counted_on count more = (count + more) % 2 ^ 64
+
+-- a place record with more handles, inputs and received words counted
+abbrev pub with_more : ℕ → ℕ → Received → Place → Place
+with_more handles inputs k p = record {
+  handles = counted_on p.handles handles;
+  inputs = counted_on p.inputs inputs;
+  drawn = p.drawn;
+  received = received (counted_on p.received.one k.one) (counted_on p.received.two k.two)
+      (counted_on p.received.three k.three) (counted_on p.received.controller k.controller);
+}
+
+-- and with more handles alone
+abbrev pub with_handles : ℕ → Place → Place
+with_handles handles p = record p { handles = counted_on p.handles handles }
 
 abbrev pub due : Receiver → Received → ℕ
 due (miner one) k = k.one

@@ -1,5 +1,5 @@
 -- Tapes, received lists, the place record and draws. (01, 'Handles, tapes and places')
-use Rattle.std.specs.Prelude.{ℕ, zero, suc, ◌+◌, ◌-◌, Bool, cond, ◌&&◌, List, [], ◌∷◌, ◌++◌, length, take, drop, nat_le, slice_index, Option, Some, None}
+use Rattle.std.specs.Prelude.{ℕ, ◌+◌, ◌-◌, Bool, cond, ◌&&◌, List, [], ◌∷◌, ◌++◌, length, take, drop, nat_le, slice_index, Option, Some, None}
 use Rattle.protocols.specs.declared.place.Party.{Party}
 use Rattle.protocols.specs.declared.place.Party.TheVariants.{Provider, One, Two, Three}
 use Rattle.protocols.specs.declared.place.Drawn.{Drawn}
@@ -138,21 +138,36 @@ with_count Three k n = counts n.provider n.one n.two k
 abbrev pub moved : ℕ → Party → Place → Place
 moved k i p = record { handles = p.handles; inputs = p.inputs; drawn = with_count i (count i p.drawn + k) p.drawn; received = p.received }
 
--- 01, 'When a call is turned down': number 12, 'any tape has fewer words left than the command draws'; 0 is not turned down
+-- ---- draws
+
+-- the number of a draw where a tape has fewer words left than are to be drawn
 abbrev pub tape_spent : ℕ
 tape_spent = 12
 
-abbrev pub tape_number : Bool → ℕ
-tape_number enough = cond enough 0 tape_spent
+-- what a draw gives: 0 or the number by which it is turned down, the words if there are any, and the place after it
+pub record Draw (T : Type 0) : Type 0 where
+  pub number : ℕ
+  pub words : Option T
+  pub place : Place
 
--- the case of a draw for each number, with its values: 'either the word with the moved place, or that the tape is spent'
-abbrev pub draw_case : {T : Type 0} → ℕ → T → Place → Option (T × Place)
-draw_case zero x q = Some (x, q)
-draw_case (suc r) x q = None
+-- drawn: 0, the words and the moved place
+abbrev pub draw_of : {T : Type 0} → T → Place → Draw T
+draw_of w q = record { number = 0; words = Some w; place = q }
+
+-- turned down: the number, no words, and the place as it was
+abbrev pub spent_draw : {T : Type 0} → Place → Draw T
+spent_draw p = record { number = tape_spent; words = None; place = p }
+
+-- what the code answers to a draw from the place p, with the number and the values of each case
+abbrev pub draw_answer : {T : Type 0} → Place → Option (T × Place) → Draw T
+draw_answer p (Some (w, q)) = draw_of w q
+draw_answer p None = spent_draw p
 
 -- the next k words of a party's tape
-unfoldable pub draw : ℕ → Party → List ℕ → Place → Option (List ℕ × Place)
-draw k i l p = draw_case (tape_number (nat_le k (length l - count i p.drawn))) (take k (drop (count i p.drawn) l)) (moved k i p)
+unfoldable pub draw : ℕ → Party → List ℕ → Place → Draw (List ℕ)
+draw k i l p =
+    cond (nat_le k (length l - count i p.drawn))
+    (draw_of (take k (drop (count i p.drawn) l)) (moved k i p)) (spent_draw p)
 
 -- a test of every party
 abbrev pub every : (Party → Bool) → Bool

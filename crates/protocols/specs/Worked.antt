@@ -1,13 +1,13 @@
 -- The worked cases of 01, 'Reckoned by hand': 'Marked M: proved together'.
 use Rattle.std.specs.Prelude.{◌≡◌, ℕ, [], ◌∷◌, replicate}
-use Rattle.protocols.specs.Word.{modulus, bit_at}
+use Rattle.protocols.specs.Word.{modulus, add, bit_at}
 use Rattle.protocols.specs.declared.shares.Shares.{Shares}
 use Rattle.protocols.specs.Shares.{Operands, shares, operands, sum_of, xor_of}
-use Rattle.protocols.specs.Place.{Tapes, tapes}
+use Rattle.protocols.specs.Place.{Tapes, tapes, lists}
 use Rattle.protocols.specs.Store.{store}
 use Rattle.protocols.specs.Multiply.{multiply}
 use Rattle.protocols.specs.Bit.{bit}
-use Rattle.protocols.specs.Bits.{rounds, bits}
+use Rattle.protocols.specs.Bits.{deal, rounds, bits}
 use Rattle.protocols.specs.Equal.{folds}
 use Rattle.protocols.specs.Open.{opening}
 use Rattle.protocols.specs.Below.{below}
@@ -27,6 +27,13 @@ product = shares 4294967149 4294966074 1404
 abbrev pub Sharing : ℕ → ℕ → Operands → Type 0
 Sharing u v x = (sum_of (modulus 5) x.u ≡ u) × (sum_of (modulus 5) x.v ≡ v)
 
+-- the words that the miners draw for the product, r and s of each, and to open it
+abbrev pub product_tapes : Tapes
+product_tapes = tapes [] (10 ∷ 20 ∷ []) (30 ∷ 40 ∷ []) (50 ∷ 60 ∷ [])
+
+abbrev pub open_tapes : Tapes
+open_tapes = tapes [] (70 ∷ []) (80 ∷ []) (90 ∷ [])
+
 -- 'b, m12, b12' on miner 1's tape
 abbrev pub bit_tape : ℕ → ℕ → ℕ → Tapes
 bit_tape b m₁₂ b₁₂ = tapes [] (b ∷ m₁₂ ∷ b₁₂ ∷ []) [] []
@@ -39,21 +46,35 @@ one_word r = tapes [] (r ∷ replicate 14 0) (replicate 12 0) (replicate 12 0)
 abbrev pub folding : ℕ → ℕ
 folding x = bit_at (xor_of ((folds 5 5).result (operands (shares 0 x 0) (shares 0 0 0)) (one_word 0)).p) 0
 
+-- promised by `worked`: the cases that were reckoned by hand come out of the definitions
 pub record Worked : Type 0 where
   -- 'store 7, tape 1, 2: shares 1, 2, 4'
   pub M1 : (store (modulus 5)).result 7 (tapes (1 ∷ 2 ∷ []) [] [] []) ≡ seven
+  pub M1_received : (store (modulus 5)).received 7 (tapes (1 ∷ 2 ∷ []) [] [] []) ≡ lists (1 ∷ []) (2 ∷ []) (4 ∷ []) []
   -- 'store 5, tape 3, 4: 3, 4, 4294967294'
   pub M2 : (store (modulus 5)).result 5 (tapes (3 ∷ 4 ∷ []) [] [] []) ≡ five
+  pub M2_received : (store (modulus 5)).received 5 (tapes (3 ∷ 4 ∷ []) [] [] [])
+      ≡ lists (3 ∷ []) (4 ∷ []) (4294967294 ∷ []) []
   -- 'their product, tapes (10, 20), (30, 40), (50, 60): 4294967149, 4294966074, 1404'
-  pub M3 : (multiply (modulus 5)).result (operands seven five) (tapes [] (10 ∷ 20 ∷ []) (30 ∷ 40 ∷ []) (50 ∷ 60 ∷ [])) ≡ product
+  pub M3 : (multiply (modulus 5)).result (operands seven five) product_tapes ≡ product
+  -- each miner receives the previous miner's r, s, and then its masked share of each operand
+  pub M3_received : (multiply (modulus 5)).received (operands seven five) product_tapes
+      ≡ lists (50 ∷ 60 ∷ 24 ∷ 18 ∷ []) (10 ∷ 20 ∷ 4294967257 ∷ 4294967259 ∷ []) (30 ∷ 40 ∷ 22 ∷ 24 ∷ []) []
   -- 'opening it, draws 70, 80, 90: 4294967129, 4294966084, 1414; word 35'
-  pub M4 : ((opening (modulus 5)).received product (tapes [] (70 ∷ []) (80 ∷ []) (90 ∷ []))).controller ≡ 4294967129 ∷ 4294966084 ∷ 1414 ∷ []
-  pub M4_word : sum_of (modulus 5) ((opening (modulus 5)).result product (tapes [] (70 ∷ []) (80 ∷ []) (90 ∷ []))) ≡ 35
+  pub M4 : (opening (modulus 5)).result product open_tapes ≡ shares 4294967129 4294966084 1414
+  pub M4_received : (opening (modulus 5)).received product open_tapes
+      ≡ lists (90 ∷ []) (70 ∷ []) (80 ∷ []) (4294967129 ∷ 4294966084 ∷ 1414 ∷ [])
+  pub M4_word : sum_of (modulus 5) ((opening (modulus 5)).result product open_tapes) ≡ 35
   -- 'Bit, shares 1, 0, 1, b = 1, m12 = 5, b12 = 0: 0, 5, 4294967291'
   pub M5 : (bit (modulus 5) 0).result (shares 1 0 1) (bit_tape 1 5 0) ≡ shares 0 5 4294967291
+  pub M5_received : (bit (modulus 5) 0).received (shares 1 0 1) (bit_tape 1 5 0)
+      ≡ lists [] (5 ∷ 0 ∷ 0 ∷ []) (4294967291 ∷ 1 ∷ 0 ∷ []) []
   -- 'shares 0, 1, 0, b = 0, m12 = 5, b12 = 0: 0, 4294967292, 5'
   pub M6 : (bit (modulus 5) 0).result (shares 0 1 0) (bit_tape 0 5 0) ≡ shares 0 4294967292 5
+  pub M6_received : (bit (modulus 5) 0).received (shares 0 1 0) (bit_tape 0 5 0)
+      ≡ lists [] (5 ∷ 0 ∷ 0 ∷ []) (4294967291 ∷ 0 ∷ 1 ∷ []) []
   -- 'v = 1, r = 4294967295: carries 4294967295, sum 0': shares of 0, from which v = 0 - r = 1
+  pub M7_value : let d = (deal 5).result (shares 0 0 0) (one_word 4294967295) in add (modulus 5) d.v2 d.v3 ≡ 1
   pub M7_carries : xor_of ((rounds 5 5).result (shares 0 0 0) (one_word 4294967295)).s ≡ 4294967295
   pub M7_sum : xor_of ((bits 5).result (shares 0 0 0) (one_word 4294967295)) ≡ 0
   -- 'folding all ones gives 1'

@@ -1,7 +1,6 @@
 // Bit.
 ghost use Rattle.std.specs.Prelude.{◌≡◌, ◌≤◌, [], length};
-ghost use Rattle.protocols.specs.Word.{modulus, bit_at, low, sub, choose};
-ghost use Rattle.protocols.specs.Shares.{shares};
+ghost use Rattle.protocols.specs.Word.{modulus, bit_at, low};
 ghost use Rattle.protocols.specs.Protocol.{perform};
 ghost use Rattle.protocols.specs.Place.{tapes, lists};
 ghost use Rattle.protocols.specs.Outcome.{outcome, delivered, delivery, fronts};
@@ -36,14 +35,14 @@ fn low_bit(x: u32) -> u32
     x & 1
 }
 
-// The new shares, by the bit s that miners 2 and 3 learn.
-fn converted(s: u32, a: u32, b: u32) -> Shares
-    ensures { result ≡ shares 0 (choose s a (sub (modulus 5) 1 a)) (choose s b (sub (modulus 5) 0 b)) }
+// The new shares, by the bit s that miners 2 and 3 learn, from the words x and y that miner 1 dealt them.
+fn chosen(s: u32, x: u32, y: u32) -> Shares
+    ensures { result ≡ spec.chosen (modulus 5) s x y }
 {
     if s == 0 {
-        Shares::from([0, a, b])
+        Shares::from([0, x, y])
     } else {
-        Shares::from([0, ring::sub(1, a), ring::sub(0, b)])
+        Shares::from([0, ring::sub(1, x), ring::sub(0, y)])
     }
 }
 
@@ -71,7 +70,7 @@ pub(crate) fn convert(
     let s32 = b13 ^ v.three;
     list::put(list2, 0, &[m12, b12, s32]);
     list::put(list3, 0, &[m13, b13, s23]);
-    converted(s23 ^ s32, m12, m13)
+    chosen(s23 ^ s32, m12, m13)
 }
 
 // Bit j of a bit word as a ring value.

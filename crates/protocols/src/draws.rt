@@ -1,6 +1,6 @@
 // Draws by every miner at once. (Each draw is taken apart by `let .. else`, here and in the protocols: see `Place::draw`.)
 ghost use Rattle.std.specs.Prelude.{◌≡◌};
-ghost use Rattle.protocols.specs.Place.{counts};
+ghost use Rattle.protocols.specs.Place.{counts, draw_answer};
 ghost use Rattle.protocols.specs.Draws.{draw_each, draw_pairs, draw_block};
 ghost use Rattle.protocols.specs.Lent.{tapes_of, drawn_block};
 
@@ -21,7 +21,8 @@ impl Place {
             Place,
         ),
     >
-        ensures { drawn_block result ≡ draw_block (counts 0 ONE OTHERS OTHERS) self (tapes_of tapes.now) }
+        ensures { draw_answer self (drawn_block result)
+            ≡ draw_block (counts 0 ONE OTHERS OTHERS) self (tapes_of tapes.now) }
     {
         let Some((one, place1)) = self.draw::<ONE>(Party::One, tapes.one) else {
             return None;
@@ -39,7 +40,7 @@ impl Place {
     #[tactic(auto, using(crate::proofs::Laws::Draws::each_of_block))]
     #[inline(always)]
     pub fn draw_each(self, tapes: &Tapes) -> Option<(Shares, Place)>
-        ensures { result ≡ draw_each self (tapes_of tapes.now) }
+        ensures { draw_answer self result ≡ draw_each self (tapes_of tapes.now) }
     {
         let Some(((&[one], &[two], &[three]), next)) = self.draw_block::<1, 1>(tapes) else {
             return None;
@@ -51,7 +52,7 @@ impl Place {
     #[tactic(auto, using(crate::proofs::Laws::Draws::pairs_of_block))]
     #[inline(always)]
     pub fn draw_pairs(self, tapes: &Tapes) -> Option<((Shares, Shares), Place)>
-        ensures { result ≡ draw_pairs self (tapes_of tapes.now) }
+        ensures { draw_answer self result ≡ draw_pairs self (tapes_of tapes.now) }
     {
         let Some(((&[one, one2], &[two, two2], &[three, three2]), next)) = self.draw_block::<2, 2>(
             tapes,

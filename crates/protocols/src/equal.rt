@@ -85,7 +85,7 @@ fn folded(round: Round, p: Shares, q: Shares) -> Folding
 }
 
 // Shares of p, from the shares d of u - v: they give all ones exactly where d gives 0.
-fn compared(d: Shares, r2: u32, r3: u32) -> Shares
+fn start(d: Shares, r2: u32, r3: u32) -> Shares
     ensures { result ≡ spec.start (modulus 5) d r2 r3 }
 {
     Shares::from([
@@ -109,7 +109,7 @@ fn compare(d: Shares, words: &[u32; 1], q: Shares, lists: &mut Lists) -> Folding
     list::put(lists.two, 0, &[r2, q.one]);
     list::put(lists.three, 0, &[r3, q.two]);
     Folding {
-        p: compared(d, r2, r3),
+        p: start(d, r2, r3),
         q,
     }
 }

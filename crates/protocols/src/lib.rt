@@ -16,6 +16,7 @@ pub mod multiply;
 pub mod open;
 pub mod outcome;
 pub mod place;
+pub mod promises;
 pub mod reshare;
 pub mod ring;
 pub mod shares;

@@ -1,7 +1,8 @@
 // The place record, and draws from a tape.
 ghost use Rattle.std.specs.Prelude.{◌≡◌, ◌<◌, ◌≤◌, Some, length, take, drop};
 ghost use Rattle.std.specs.Option.{MatchOption};
-ghost use Rattle.protocols.specs.Place.{count, with_count, draw, place_of};
+ghost use Rattle.protocols.specs.Place.{count, with_count, draw_answer, draw, place_of};
+ghost use Rattle.protocols.specs.Counts.{with_handles, with_more};
 ghost use Rattle.protocols.specs.Lent.{drawn};
 ghost use Rattle.protocols.specs.Printed as printed;
 
@@ -97,7 +98,7 @@ impl Place {
         party: Party,
         tape: &'a [u32],
     ) -> Option<(&'a [u32; N], Place)>
-        ensures { drawn result ≡ draw N party tape.now self }
+        ensures { draw_answer self (drawn result) ≡ draw N party tape.now self }
     {
         let at = self.drawn.of(party);
         let Some(words) = next_words::<N>(tape, at) else {
@@ -105,6 +106,42 @@ impl Place {
         };
         let drawn = self.drawn.with(party, at + N);
         Some((words, Place { drawn, ..self }))
+    }
+
+    // With more handles counted. (Here and below modulo 2^64, so that every record is taken: no count that fits its
+    // list gets there.)
+    #[inline(always)]
+    pub fn with_handles(self, handles: usize) -> Place
+        ensures { result ≡ with_handles handles self }
+    {
+        Place {
+            handles: self.handles.wrapping_add(handles),
+            ..self
+        }
+    }
+
+    // With more handles, inputs and received words counted.
+    #[inline(always)]
+    pub fn with_more(self, handles: usize, inputs: usize, received: Received) -> Place
+        ensures { result ≡ with_more handles inputs received self }
+    {
+        let Received {
+            one,
+            two,
+            three,
+            controller,
+        } = self.received;
+        Place {
+            handles: self.handles.wrapping_add(handles),
+            inputs: self.inputs.wrapping_add(inputs),
+            received: Received {
+                one: one.wrapping_add(received.one),
+                two: two.wrapping_add(received.two),
+                three: three.wrapping_add(received.three),
+                controller: controller.wrapping_add(received.controller),
+            },
+            ..self
+        }
     }
 }
 

@@ -1,20 +1,24 @@
 // An input, whole, into a lent buffer.
 #![tactic(auto)]
 
-ghost use Rattle.std.specs.Prelude.{◌≡◌, ◌<◌, [], IfOk, Ok, length, take};
+ghost use Rattle.std.specs.Prelude.{◌≡◌, ℕ, ◌<◌, [], IfOk, OnErr, Ok, length, take};
 ghost use Rattle.std.specs.Io.{ReadsAtMost};
 ghost use Rattle.std.specs.Io.KnownBytes.{Consumes, IsAtEnd};
 
 use std::io;
 use std::io::Read;
 
-// Reads until the input ends or the buffer is full, and answers how many bytes stand at the buffer's start. A failed read is told apart
-// from the end, so that no part of an input is taken for the whole; the buffer then holds some of it.
+// Reads until the input ends or the buffer is full, and answers how many bytes stand at the buffer's start. A failed
+// read is told apart from the end, so that no part of an input is taken for the whole; the buffer then begins with what
+// was read before it, and what stands behind that is not told.
 #[tactic(auto, using(crate::proofs::Filled::consumes_filled))]
 pub fn read_whole<R: Read>(from: &mut R, buffer: &mut [u8]) -> io::Result<usize>
     ensures counted { ReadsAtMost result buffer.new }
     ensures bytes { IfOk result (λ n. Consumes (R.remaining from.old) (R.remaining from.new) (take n buffer.new)) }
     ensures whole { IfOk result (λ n. n < length buffer.new → IsAtEnd (R.remaining from.new)) }
+    ensures failed { OnErr result
+        ((n : ℕ) × (n < length buffer.new)
+        × Consumes (R.remaining from.old) (R.remaining from.new) (take n buffer.new)) }
     ensures no_room { buffer.old ≡ [] → result ≡ Ok 0 }
 {
     let mut done = 0;

@@ -14,6 +14,7 @@ pub mod Text
 pub mod OpenLines
 pub mod RunLines
 pub mod Report
-pub mod Numbers
 pub mod EntryOne
 pub mod EntryTwo
+pub mod Worked
+pub mod WorkedBlindness

@@ -5,4 +5,6 @@ pub mod Session
 pub mod Text
 pub mod Writing
 pub mod Refusals
+pub mod Worked
 pub mod Claims
+pub mod WorkedBlindness

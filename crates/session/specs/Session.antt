@@ -6,7 +6,7 @@ use Rattle.protocols.specs.declared.lent.Lists as code_lists
 use Rattle.protocols.specs.Lent.{lists_of}
 use Rattle.machine.specs.declared.lent.Tables as code_tables
 use Rattle.machine.specs.Lent.{Tables, tables_of, Lent, lent, sizes}
-use Rattle.machine.specs.Verdict.{check, same_length}
+use Rattle.machine.specs.Verdict.{same_length}
 use Rattle.machine.specs.Run.{Ran, run_to_refusal, accepted, refused_with, empty}
 use Rattle.session.specs.declared.answer.SessionAnswer.{SessionAnswer}
 use Rattle.session.specs.Words.{words_of}
@@ -49,6 +49,10 @@ is_within file = within limits (take 12 (words_of file)) && nat_eq (count_of (wo
 -- 4: 'share tables and kind list differ in length', 'or under 7,692 words lent to a session'
 abbrev pub is_lent : Sheet → List ℕ → State → Bool
 is_lent b w s = same_length (sizes (lent_with b s)) && nat_le 7692 (length w)
+
+-- a test that gives the number r where it fails, and goes on where it holds
+abbrev pub check : ℕ → Bool → ℕ → ℕ
+check r holds next = cond holds next r
 
 -- the lowest of these numbers that applies, or 0; the last test is of what is lent
 unfoldable pub tested : List ℕ → Bool → ℕ

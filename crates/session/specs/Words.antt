@@ -1,13 +1,9 @@
 -- A file's words. (01, 'The session sheet')
-use Rattle.std.specs.Prelude.{ℕ, ◌+◌, ◌*◌, List, [], ◌∷◌, get_or}
+use Rattle.std.specs.Prelude.{ℕ, ◌+◌, ◌*◌, List, [], ◌∷◌}
 
 -- 'A file of words, each four bytes, lowest first'
 abbrev pub word : ℕ → ℕ → ℕ → ℕ → ℕ
 word a b c d = a + 256 * b + 65536 * c + 16777216 * d
-
--- the word whose bytes start at a place
-abbrev pub word_at : List ℕ → ℕ → ℕ
-word_at file at = word (get_or file at 0) (get_or file (at + 1) 0) (get_or file (at + 2) 0) (get_or file (at + 3) 0)
 
 -- all whole words
 unfoldable pub words_of : List ℕ → List ℕ

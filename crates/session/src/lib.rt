@@ -4,6 +4,7 @@
 pub mod answer;
 mod contents;
 pub mod pool;
+pub mod promises;
 mod run;
 pub mod session;
 mod text;

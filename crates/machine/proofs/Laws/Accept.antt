@@ -1,10 +1,11 @@
 -- What the code's steps come to: a command from its row on.
-use Rattle.std.specs.Prelude.{Option, Some}
-use Prim.Native.Nat.{ℕ, zero, suc, ◌+◌, ◌-◌, ◌≤◌, ◌<◌, ◌^◌}
+use Rattle.std.specs.Prelude.{Some}
+use Prim.Native.Nat.{ℕ, ◌+◌, ◌-◌, ◌≤◌, ◌<◌, ◌^◌}
 use mathlib.Core.Path.{◌≡◌, refl, sym, ap, subst, ◌∙◌}
 use mathlib.Core.Bool.{true, ◌&&◌}
 use mathlib.Core.List.{List, ◌++◌}
 use native.Mathlib.Omega.{arith}
+use Rattle.std.proofs.Math.Nat.{mod-eq_of_lt}
 use lib.Dec.{leb, leb-zero}
 use lib.ListN.{length, take, drop, take-append-drop}
 use Rattle.protocols.specs.Outcome.{Outcome}
@@ -14,8 +15,10 @@ use Rattle.protocols.specs.declared.shares.Shares.{Shares}
 use Rattle.protocols.specs.Shares.{one, two, three}
 use Rattle.protocols.specs.Place.{Lists, lists, Receiver, miner, controller, list, counts, advance}
 use Rattle.protocols.specs.Protocol.{perform}
-use Rattle.protocols.specs.Counts.{received, due}
-use Rattle.protocols.specs.Outcome.{delivered, delivery, fronts}
+use Rattle.protocols.specs.Counts.{received, with_handles, with_more, due}
+use Rattle.protocols.specs.declared.outcome.Shortage.{Shortage}
+use Rattle.protocols.specs.declared.outcome.Shortage.TheVariants.{TapeSpent, ListFull}
+use Rattle.protocols.specs.Outcome.{number, refused, delivered, delivery, fronts}
 use Rattle.protocols.proofs.Laws.Puts.{tail_lent, tail_back, tail_sets}
 use Rattle.machine.specs.declared.answer.Answer.{Answer}
 use Rattle.machine.specs.declared.code.Code.{Code}
@@ -25,14 +28,16 @@ use Rattle.machine.specs.declared.given.Given.{Given}
 use Rattle.machine.specs.declared.lent.Sizes.{Sizes}
 use Rattle.machine.specs.declared.kind.Kind.TheVariants.{RingValue}
 use Rattle.machine.specs.declared.row.Row.{Row}
+use Rattle.machine.specs.Refusal as table
 use Rattle.machine.specs.Table.{row, moved}
 use Rattle.machine.specs.Lent.{Tables, Lent, lent, sizes}
 use Rattle.machine.specs.Verdict.{Verdict, Accepted, supplied}
 use Rattle.machine.specs.Steps.{protocol}
 use Rattle.machine.specs.Command.{Outcome as Done, answer, outcome, given, opened, with_words, decided, accepted}
-use Rattle.machine.specs.Accept.{Begun, Serves, Fits, alone, one_more, counted, unfilled, Stored, stored, append, left, finished, finish}
+use Rattle.machine.specs.Accept.{Begun, Serves, Fits, alone, one_more, counted, unfilled, Stored, stored, append, left, finish}
 use Rattle.machine.proofs.Laws.Play.{made, Joins, alone_served, protocol_served}
 use Rattle.machine.proofs.Laws.Steps.{steps_counted}
+use Rattle.machine.proofs.Laws.Rows.{numbered}
 use Rattle.machine.proofs.Laws.Supplied.{Told, lacking, having, f, g, drawn, supplied-told}
 
 -- ---- words for every party
@@ -53,13 +58,35 @@ no_words k l = λ i.
     lists (take-append-drop k.one l.one i) (take-append-drop k.two l.two i) (take-append-drop k.three l.three i)
     (take-append-drop k.controller l.controller i)
 
+-- ---- sums of counts that fit a machine word
+
+pub one_more_fits : (p : Place) → p.handles + 1 < 2 ^ 64 → with_handles 1 p ≡ one_more p
+one_more_fits p h = cc (mod-eq_of_lt h)
+
+pub counted_fits : (p : Place) (x : Row) → Fits p x → with_more x.values x.inputs x.received p ≡ counted p x
+counted_fits p x f =
+    cc (
+      mod-eq_of_lt f.handles,
+      mod-eq_of_lt f.inputs,
+      mod-eq_of_lt f.one,
+      mod-eq_of_lt f.two,
+      mod-eq_of_lt f.three,
+      mod-eq_of_lt f.controller,
+    )
+
 -- ---- after a protocol
+
+-- what a protocol lacks has the same number as what the machine then refuses with
+lacking_number : (s : Shortage) → number s ≡ table.number (table.lacking s)
+lacking_number TapeSpent = refl
+lacking_number ListFull = refl
 
 -- where it is done, its place record can be moved on by the row
 pub fits_if_done : (x : Code) (c : Command) (p : Place) (l : Lent) → Begun x c p l → length l.tables.one < 2 ^ 64 → length l.inputs < 2 ^ 64
     → length l.received.one < 2 ^ 64 → length l.received.two < 2 ^ 64 → length l.received.three < 2 ^ 64 → length l.received.controller < 2 ^ 64
     → {r : Row} {o : Outcome} {b : Lists} → r ≡ row 5 x → Told x c p l o b → o.number ≡ 0 → Fits o.place r
-fits_if_done x c p l begun h i j k m n er (lacking d e is) z = absurd (omega (arith, sym z ∙ (λ i. (is i).outcome.number)))
+fits_if_done x c p l begun h i j k m n er (lacking s e is) z =
+    absurd (omega (arith, sym z ∙ (λ i. (is i).outcome.number) ∙ lacking_number s, numbered (table.lacking s)))
 fits_if_done x c p l begun h i j k m n {r} {o} er (having e fit is) z =
     let q : o.place ≡ advance p (row 5 x).drawn = λ i. (is i).outcome.place in
     rw (q, er) (record {
@@ -71,19 +98,11 @@ fits_if_done x c p l begun h i j k m n {r} {o} er (having e fit is) z =
       controller = omega (arith, n, fit controller);
     })
 
--- by its number
-pub finish-refused : (x : Row) (p : Place) (o : Outcome) (t : Tables) (kinds : List ℕ) {a : Answer} → a ≡ answer o.number p 0 → ¬ (o.number ≡ 0)
-    → left a (stored t kinds) ≡ finish x p o t kinds
-finish-refused x p o t kinds ea h = ap (λ (a : Answer). left a (stored t kinds)) ea ∙ by_number o.number h
-  where
-    by_number : (n : ℕ) → ¬ (n ≡ 0) → left (answer n p 0) (stored t kinds) ≡ finished n x p o t kinds
-    by_number zero h = absurd (h refl)
-    by_number (suc n) h = refl
-
-pub finish-done : (x : Row) (p : Place) (o : Outcome) (t : Tables) (kinds : List ℕ) {q : Place} {w : ℕ} {e : Stored} → o.number ≡ 0
-    → q ≡ counted o.place x → w ≡ opened 5 x o.shares → e ≡ append x.values p.handles o.shares x.kind t kinds
-    → left (answer 0 q w) e ≡ finish x p o t kinds
-finish-done x p o t kinds z eq ew ee = (λ i. left (answer 0 (eq i) (ew i)) (ee i)) ∙ ap (λ (n : ℕ). finished n x p o t kinds) (sym z)
+-- where something is lacking nothing changes
+finish_lacking : (x : Row) (p : Place) (t : Tables) (kinds : List ℕ) (s : Shortage)
+    → finish x p (refused (number s) p) t kinds ≡ left (answer (table.number (table.lacking s)) p 0) (stored t kinds)
+finish_lacking x p t kinds TapeSpent = refl
+finish_lacking x p t kinds ListFull = refl
 
 is_accepted : (x : Code) (c : Command) (p : Place) (l : Lent) → let y = (f x c p l).result (g x c p l) (drawn x c p l) in
     let s = append (row 5 x).values p.handles y (row 5 x).kind l.tables l.kinds in
@@ -97,10 +116,11 @@ is_accepted x c p l = refl
 told-left : (x : Code) (c : Command) (p : Place) (l : Lent) → {o : Outcome} {b : Lists} → Told x c p l o b → let e = finish (row 5 x) p o l.tables l.kinds in
     outcome e.answer (lent e.stored.tables e.stored.kinds l.inputs l.tapes (behind p.received l.received b))
     ≡ decided 5 (supplied (row 5 x) p (sizes l) (Accepted x)) c p l
-told-left x c p l {o} {b} (lacking k e d) =
-    (λ i. let s = finish (row 5 x) p (d i).outcome l.tables l.kinds in
-    outcome s.answer (lent s.stored.tables s.stored.kinds l.inputs l.tapes (behind p.received l.received (d i).lists)))
-    ∙ (λ i. outcome (answer (suc k) p 0) (lent l.tables l.kinds l.inputs l.tapes (no_words p.received l.received i)))
+told-left x c p l {o} {b} (lacking s e d) =
+    (λ i. let e = finish (row 5 x) p (d i).outcome l.tables l.kinds in
+    outcome e.answer (lent e.stored.tables e.stored.kinds l.inputs l.tapes (behind p.received l.received (d i).lists)))
+    ∙ (λ i. let e = finish_lacking (row 5 x) p l.tables l.kinds s i in
+    outcome e.answer (lent e.stored.tables e.stored.kinds l.inputs l.tapes (no_words p.received l.received i)))
     ∙ sym (ap (λ (v : Verdict). decided 5 v c p l) e)
 told-left x c p l {o} {b} (having e fit d) =
     let y = (f x c p l).result (g x c p l) (drawn x c p l) in
@@ -195,24 +215,6 @@ module _ (c : Command) (p : Place) (l : Lent) where
   value-left Equal e = absurd (subst Joins e tt)
   value-left Open e = absurd (subst Joins e tt)
   value-left Below e = absurd (subst Joins e tt)
-
-  -- an entry is due, and there is one
-  pub value_fits : (x : Code) (q : Given) {a : Option Shares} {s : Shares} → Begun x c p l → length l.tables.one < 2 ^ 64 → a ≡ alone x c.b q → a ≡ Some s → p.handles + 1 < 2 ^ 64
-  value_fits x q begun h ea es = omega (arith, h, begun.entries.one, due x (sym ea ∙ es))
-    where
-      due : (x : Code) {s : Shares} → alone x c.b q ≡ Some s → (row 5 x).values ≡ 1
-      due Store e = refl
-      due Add e = refl
-      due Subtract e = refl
-      due AddConstant e = refl
-      due TimesConstant e = refl
-      due Multiply e = refl
-      due Reshare e = refl
-      due Bits e = refl
-      due Bit e = refl
-      due Equal e = refl
-      due Open e = absurd (subst Joins e tt)
-      due Below e = refl
 
   pub alone-left : (x : Code) (q : Given) {s : Shares} {a : Answer} {e : Stored} → Serves (row 5 x) q (given l.tables l.inputs p c) → alone x c.b q ≡ Some s
       → left a e ≡ left (answer 0 (one_more p) 0) (append 1 p.handles s RingValue l.tables l.kinds)

@@ -1,5 +1,5 @@
 -- What an accepted command has passed.
-use Prim.Native.Nat.{ℕ, zero, suc, ◌+◌, ◌-◌, ◌≤◌}
+use Prim.Native.Nat.{ℕ, ◌+◌, ◌-◌, ◌≤◌}
 use mathlib.Core.Path.{◌≡◌, refl, ap, subst}
 use mathlib.Core.Bool.{Bool, true, false, ◌&&◌}
 use mathlib.Core.List.{List}
@@ -18,15 +18,16 @@ use Rattle.protocols.proofs.Laws.Deliveries.{both}
 use Rattle.machine.specs.declared.code.Command.{Command}
 use Rattle.machine.specs.declared.code.Code.{Code}
 use Rattle.machine.specs.declared.refusal.Refusal.{Refusal}
+use Rattle.machine.specs.declared.refusal.Refusal.TheVariants.{LentUnsoundly, FieldNotZero, HandleNotFilled, WrongKind, PositionOutside, TablesFull, InputsUsed, TapeSpent, ListFull}
 use Rattle.machine.specs.declared.row.Row.{Row}
 use Rattle.machine.specs.declared.lent.Sizes.{Sizes}
 use Rattle.machine.specs.Table.{find, row}
-use Rattle.machine.specs.Verdict.{Verdict, Accepted, Refused, test, check, told, same_length, within, are_kinds, sound, every_list, unused_zero, handles_filled, kinds_fit, in_word, tables_have, inputs_have, tapes_have, lists_have, refusal, supplied, judged, looked_up, verdict}
+use Rattle.machine.specs.Verdict.{Verdict, Accepted, Refused, test, Checked, passed, check, after_checks, same_length, within, are_kinds, sound, every_list, unused_zero, handles_filled, kinds_fit, in_word, tables_have, inputs_have, tapes_have, lists_have, refusal, supplied, judged, looked_up, verdict}
 
 -- ---- tests
 
 -- a refusal is no acceptance
-refused_not : {r : ℕ} {x : Code} → Refused r ≡ Accepted x → ⊥
+refused_not : {r : Refusal} {x : Code} → Refused r ≡ Accepted x → ⊥
 refused_not e = subst tells e tt
   where
     tells : Verdict → Type 0
@@ -41,28 +42,33 @@ accepted-same {x} e = ap code_of e
     code_of (Refused r) = x
 
 -- a test that a command has passed
-passed : (r : ℕ) (b : Bool) (v : Verdict) {x : Code} → test r b v ≡ Accepted x → (b ≡ true) × (v ≡ Accepted x)
-passed r true v e = (refl, e)
-passed r false v e = absurd (refused_not e)
+test_passed : (r : Refusal) (b : Bool) (v : Verdict) {x : Code} → test r b v ≡ Accepted x → (b ≡ true) × (v ≡ Accepted x)
+test_passed r true v e = (refl, e)
+test_passed r false v e = absurd (refused_not e)
 
--- a number that leads to an acceptance is 0
-told_passed : (r : ℕ) (next : Verdict) {x : Code} → told r next ≡ Accepted x → (r ≡ 0) × (next ≡ Accepted x)
-told_passed zero next e = (refl, e)
-told_passed (suc r) next e = absurd (refused_not e)
+-- a check that fails is not passed
+pub ok_not : {r : Refusal} → let e : Checked = Err r in ¬ (e ≡ passed)
+ok_not e = cc
 
--- six checks that give 0 all hold
-checks_passed : (a b c d e f : Bool) → check 6 a (check 7 b (check 8 c (check 9 d (check 10 e (check 11 f 0))))) ≡ 0
+-- checks that lead to an acceptance all hold
+all_held : (r : Checked) (next : Verdict) {x : Code} → after_checks r next ≡ Accepted x → (r ≡ passed) × (next ≡ Accepted x)
+all_held (Ok tt) next e = (refl, e)
+all_held (Err r) next e = absurd (refused_not e)
+
+-- six checks that are passed all hold
+checks_passed : (a b c d e f : Bool)
+    → check FieldNotZero a (check HandleNotFilled b (check WrongKind c (check PositionOutside d (check TablesFull e (check InputsUsed f passed))))) ≡ passed
     → (a ≡ true) × (b ≡ true) × (c ≡ true) × (d ≡ true) × (e ≡ true) × (f ≡ true)
 checks_passed true true true true true true z = (refl, refl, refl, refl, refl, refl)
-checks_passed true true true true true false z = absurd (omega arith)
-checks_passed true true true true false f z = absurd (omega arith)
-checks_passed true true true false e f z = absurd (omega arith)
-checks_passed true true false d e f z = absurd (omega arith)
-checks_passed true false c d e f z = absurd (omega arith)
-checks_passed false b c d e f z = absurd (omega arith)
+checks_passed true true true true true false z = absurd (ok_not z)
+checks_passed true true true true false f z = absurd (ok_not z)
+checks_passed true true true false e f z = absurd (ok_not z)
+checks_passed true true false d e f z = absurd (ok_not z)
+checks_passed true false c d e f z = absurd (ok_not z)
+checks_passed false b c d e f z = absurd (ok_not z)
 
 -- the tests 6 to 11, where none refuses
-pub refusal_passed : (n : ℕ) (x : Row) (c : Command) (p : Place) (entries inputs : ℕ) (kinds : List ℕ) → refusal n x c p entries inputs kinds ≡ 0
+pub refusal_passed : (n : ℕ) (x : Row) (c : Command) (p : Place) (entries inputs : ℕ) (kinds : List ℕ) → refusal n x c p entries inputs kinds ≡ passed
     → (unused_zero x c ≡ true) × (handles_filled x p c ≡ true) × (kinds_fit x kinds c ≡ true) × (in_word n x c ≡ true) × (tables_have x p entries ≡ true)
     × (inputs_have x p inputs ≡ true)
 refusal_passed n x c p entries inputs kinds =
@@ -104,15 +110,15 @@ pub record Passed (n : ℕ) (x : Code) (c : Command) (p : Place) (z : Sizes) (ki
 pub all_passed : (n : ℕ) (x : Code) (c : Command) (p : Place) (z : Sizes) (kinds : List ℕ) → verdict n c p z kinds ≡ Accepted x → Passed n x c p z kinds
 unfolding verdict judged
 all_passed n x c p z kinds e =
-    let t4 = passed 4 (sound p z kinds) (looked_up n (find c.code) c p z kinds) e in
+    let t4 = test_passed LentUnsoundly (sound p z kinds) (looked_up n (find c.code) c p z kinds) e in
     by_lookup (find c.code) refl t4.0 t4.1
   where
     by_row : (y : Code) → find c.code ≡ Ok y → sound p z kinds ≡ true → judged n (row n y) c p z kinds (Accepted y) ≡ Accepted x → Passed n y c p z kinds × (y ≡ x)
     by_row y k s f =
-        let t = told_passed (refusal n (row n y) c p z.one z.inputs kinds) (supplied (row n y) p z (Accepted y)) f in
+        let t = all_held (refusal n (row n y) c p z.one z.inputs kinds) (supplied (row n y) p z (Accepted y)) f in
         let h = refusal_passed n (row n y) c p z.one z.inputs kinds t.0 in
-        let t12 = passed 12 (tapes_have (row n y) p z) (test 13 (lists_have (row n y) p z) (Accepted y)) t.1 in
-        let t13 = passed 13 (lists_have (row n y) p z) (Accepted y) t12.1 in (
+        let t12 = test_passed TapeSpent (tapes_have (row n y) p z) (test ListFull (lists_have (row n y) p z) (Accepted y)) t.1 in
+        let t13 = test_passed ListFull (lists_have (row n y) p z) (Accepted y) t12.1 in (
           record {
             known = k;
             four = s;

@@ -16,7 +16,7 @@ use Rattle.protocols.specs.declared.place.Place.{Place}
 use Rattle.protocols.specs.declared.shares.Shares.{Shares}
 use Rattle.protocols.specs.Word.{width, modulus, add, sub, mul, bit_at}
 use Rattle.protocols.specs.Shares.{Miner, one, at, each, AreWords as AreWordsOf, sum_of}
-use Rattle.protocols.specs.Place.{Tapes, Lists, Receiver, controller, list, block}
+use Rattle.protocols.specs.Place.{Tapes, Lists, Receiver, controller, list, count, block}
 use Rattle.protocols.specs.Contents.{Below as AllBelow, Contents}
 use Rattle.protocols.specs.Counts.{received, due}
 use Rattle.protocols.proofs.Laws.Blocks.{block_contents}
@@ -26,6 +26,7 @@ use Rattle.machine.specs.declared.row.Use.{Use}
 use Rattle.machine.specs.declared.row.Use.TheVariants.{Unused, Handle, Word, Position}
 use Rattle.machine.specs.declared.given.Given.{Given}
 use Rattle.machine.specs.declared.code.Command.{Command}
+use Rattle.std.specs.Prelude.{Ok}
 use Rattle.machine.specs.Table.{find, kind_number, row, opens, moved}
 use Rattle.machine.specs.Lent.{table, Lent, lent, tape_lengths, sizes, entry, shares_at, Filled, AreWords}
 use Rattle.machine.specs.Verdict.{Verdict, Accepted, Refused, number, meets, filled, verdict}
@@ -35,14 +36,15 @@ use Rattle.machine.specs.Registers.{Register, register, Registers, registers, na
 use Rattle.machine.specs.Start.{combined, register_of, up_to, start}
 use Rattle.machine.specs.Run.{is_opened}
 use Rattle.machine.specs.Accept.{IfHandle}
-use Rattle.machine.specs.Claims.{Appended, New, Opened, Entry2}
+use Rattle.machine.specs.Claims.{Appended, New, IfAccepted, Moved, NewValue, Counts, Opened, NeverSpent, Entry2}
 use Rattle.protocols.proofs.Laws.Deliveries.{both}
 use Rattle.machine.proofs.Laws.Accepted.{Passed, all_passed, has_room}
-use Rattle.machine.proofs.Laws.Steps.{GivenAreWords, count-lengths, steps_counted, steps_combine, open_hands}
+use Rattle.machine.proofs.Laws.Steps.{GivenAreWords, count-lengths, steps_counted, steps_combine, open_hands, never_lacks, performs}
 use Rattle.machine.proofs.Laws.Rows.{values_at_most_1, same_code, opens-at_11}
-use Rattle.machine.proofs.Laws.Refusals.{above_zero}
+use Rattle.machine.specs.Refusal.{number as refusal_number}
+use Rattle.machine.proofs.Laws.Rows.{numbered}
 use Rattle.machine.proofs.Laws.Judge.{is_filled, same-lengths, judge-same}
-use Rattle.machine.proofs.Laws.Entries.{get_or-up_to, up_to-same, entry-set_old, entry-set_new, get_or-put, length-put, table-with_shares, sets_appended, list-with_words, due-list_lengths, due-moved, below-get_or, shares_are_words, below_put, below-sets}
+use Rattle.machine.proofs.Laws.Entries.{get_or-up_to, up_to-same, entry-set_old, entry-set_new, get_or-put, length-put, table-with_shares, sets_appended, list-with_words, due-list_lengths, count-plus, due-moved, below-get_or, shares_are_words, below_put, below-sets}
 
 -- ---- registers of filled handles, and the operands' words
 
@@ -260,6 +262,41 @@ module _ (n : ℕ) (c : Command) (p : Place) (l : Lent) where
   pub code_opens : (x : Code) → decision ≡ Accepted x → eqb c.code 11 ≡ opens (row n x)
   code_opens x e = opens-at_11 n c.code x (has_passed x e).known
 
+  -- a command that its code word names, answered 0
+  accepted_by : (v : Verdict) → decision ≡ v → (x : Code) → find c.code ≡ Ok x → number v ≡ 0 → decision ≡ Accepted x
+  accepted_by (Accepted y) e x f z = e ∙ ap Accepted (same_code (has_passed y e).known f)
+  accepted_by (Refused r) e x f z = absurd (omega (arith, z, numbered r))
+
+  pub is_accepted : (x : Code) → IfAccepted n c p l x (decision ≡ Accepted x)
+  unfolding command
+  is_accepted x f z = accepted_by decision refl x f (sym (number-decided decision) ∙ z)
+
+  -- it moves the place record on by its row
+  moved_by : (x : Code) → decision ≡ Accepted x → Moved n c p l x
+  unfolding accepted
+  moved_by x e =
+      let q = ap (λ (o : Outcome). o.answer.place) (command_accepts x e) in
+      record {
+        handles = ap (λ (q : Place). q.handles) q;
+        inputs = ap (λ (q : Place). q.inputs) q;
+        drawn = λ i. ap (λ (q : Place). count i q.drawn) q ∙ count-plus i p.drawn (row n x).drawn;
+        received = λ r. ap (λ (q : Place). due r q.received) q ∙ due-moved r p (row n x);
+      }
+
+  -- each list has the words of its protocol more
+  appended_by : (x : Code) → decision ≡ Accepted x → (r : Receiver)
+      → Appended (list r l.received) (due r p.received) (list r (sends n c p l x (draws n c p l x))) (list r (command n c p l).lent.received)
+  unfolding accepted
+  appended_by x e r = ap (λ (o : Outcome). list r o.lent.received) (command_accepts x e) ∙ appended n c p l x (has_passed x e) (draws n c p l x) r
+
+  -- and what it draws and delivers is its row's
+  pub counted_by : (x : Code) → decision ≡ Accepted x → Counts n c p l x
+  counted_by x e = let f = steps_counted n x c.b in record {
+    drawn = f.drawn;
+    long = f.long (takes n c p l x) (draws n c p l x);
+    grown = appended_by x e;
+  }
+
   accepts_open : (x : Code) → decision ≡ Accepted x → c.code ≡ 11 → decision ≡ Accepted Open
   accepts_open x e f = e ∙ ap Accepted (same_code (has_passed x e).known (ap find f))
 
@@ -282,10 +319,43 @@ module _ (n : ℕ) (c : Command) (p : Place) (l : Lent) where
     }
     kept_by (Refused r) e = record { tables_kept = λ i k h. refl; kinds_kept = λ k h. refl; inputs_kept = refl; tapes_kept = refl; sizes_kept = refl; words = w }
 
-    appended_by : (x : Code) → decision ≡ Accepted x → (r : Receiver)
-        → Appended (list r l.received) (due r p.received) (list r (sends n c p l x (draws n c p l x))) (list r (command n c p l).lent.received)
+    -- the new handle, where a value is due, has its row's kind, and holds its row's value of what the operands' shares
+    -- combine to
+    new_handle : (x : Code) → decision ≡ Accepted x → (row n x).values ≡ 1
+        → let k = kind_number (row n x).kind in
+        let operand : ℕ → ℕ = λ h. combined (modulus n) (kind_number (row n x).operands) (shares_at l.tables h) in
+        let o = command n c p l in
+        (entry o.lent.kinds (p.handles + 1) ≡ k)
+        × (combined (modulus n) k (shares_at o.lent.tables (p.handles + 1)) ≡ value n x (operand c.a) (operand c.b) c.b (get_or l.inputs p.inputs 0))
     unfolding accepted
-    appended_by x e r = ap (λ (o : Outcome). list r o.lent.received) (command_accepts x e) ∙ appended n c p l x (has_passed x e) (draws n c p l x) r
+    new_handle x e one_due =
+        let a = has_passed x e in
+        let b = draws n c p l x in
+        let s = makes n c p l x b in
+        let k = kind_number (row n x).kind in
+        let r = (leaves n c p l x b).received in
+        let h : p.handles + 1 ≤ length l.kinds = omega (arith, fits n c p l x a, one_due) in
+        let is : register_of n (command n c p l).lent (p.handles + 1) ≡ register (combined (modulus n) k s) k =
+        ap (λ (o : Outcome). register_of n o.lent (p.handles + 1)) (command_accepts x e)
+        ∙ ap (λ (v : ℕ). register_of n (with_value n l p.handles s k r v) (p.handles + 1)) one_due
+        ∙ ap (register_of n (with_value n l p.handles s k r 1)) (add-one p.handles)
+        ∙ new_register n l p.handles s k r (λ i. omega (arith, h, same n c p l x a i)) (omega (arith, h)) in
+        let t = register_combines n (command n c p l).lent (p.handles + 1) (register (combined (modulus n) k s) k) is in
+        (t.0, t.1 ∙ steps_combine n x c.b (takes n c p l x) b (given_are_words n c p l x w a) (drawn-words n c p l x w a))
+
+    new_value : (x : Code) → decision ≡ Accepted x → NewValue n c p l x
+    new_value Store e = new_handle Store e refl
+    new_value Add e = new_handle Add e refl
+    new_value Subtract e = new_handle Subtract e refl
+    new_value AddConstant e = new_handle AddConstant e refl
+    new_value TimesConstant e = new_handle TimesConstant e refl
+    new_value Multiply e = new_handle Multiply e refl
+    new_value Reshare e = new_handle Reshare e refl
+    new_value Bits e = new_handle Bits e refl
+    new_value Bit e = new_handle Bit e refl
+    new_value Equal e = new_handle Equal e refl
+    new_value Open e = tt
+    new_value Below e = new_handle Below e refl
 
     -- the registers
     start_by : (v : Verdict) → decision ≡ v → start n (decided n v c p l).answer.place (decided n v c p l).lent ≡ after n v c l.inputs (start n p l)
@@ -313,7 +383,7 @@ module _ (n : ℕ) (c : Command) (p : Place) (l : Lent) where
 
     opened_by : (v : Verdict) → decision ≡ v → c.code ≡ 11 → number v ≡ 0 → Opened n c p l
     opened_by (Accepted x) e f k = accepted_open (accepts_open x e f)
-    opened_by (Refused r) e f k = absurd (omega (arith, above_zero n c p l r e))
+    opened_by (Refused r) e f k = absurd (omega (arith, k, numbered r))
 
     shown_by : (v : Verdict) → decision ≡ v
         → cond (is_opened c (decided n v c p l).answer) ((decided n v c p l).answer.opened ∷ []) [] ≡ shown n v c (start n p l)
@@ -326,12 +396,17 @@ module _ (n : ℕ) (c : Command) (p : Place) (l : Lent) where
             (ap (λ (o : Outcome). o.answer.opened) (sym (command_accepts x e)) ∙ (accepted_open (accepts_open x e (eqb-true c.code 11 f))).told)
         by_code false f = refl
     shown_by (Refused r) e =
-        ap (λ (b : Bool). cond (eqb c.code 11 && b) (0 ∷ []) []) (ne_eqb r 0 (λ f. omega (arith, above_zero n c p l r e)))
+        ap (λ (b : Bool). cond (eqb c.code 11 && b) (0 ∷ []) []) (ne_eqb (refusal_number r) 0 (λ f. omega (arith, f, numbered r)))
         ∙ ap (λ (b : Bool). cond b (0 ∷ []) []) (and-false (eqb c.code 11))
 
     pub shown-after : cond (is_opened c (command n c p l).answer) ((command n c p l).answer.opened ∷ []) [] ≡ shown n (judge n c (sizes l) (start n p l)) c (start n p l)
     unfolding command
     shown-after = shown_by decision refl ∙ ap (λ (v : Verdict). shown n v c (start n p l)) (sym (judge-same n c p l))
+
+-- the protocol of an accepted command is done, wherever the other counts of the place record stand
+pub never_spent : (n : ℕ) (c : Command) (p : Place) (l : Lent) → NeverSpent n c p l
+never_spent n c p l x f z q same =
+    performs n x c.b (given l.tables l.inputs p c) p q l.tapes same (never_lacks n x c p l (has_passed n c p l x (is_accepted n c p l x f z)))
 
 -- ---- entry 2
 
@@ -346,11 +421,9 @@ entry_2 n c p l w =
       same_place = ap (λ (m : Registers). m.place) (start-after n c p l w);
       combine = λ h f. register_combines n o.lent h (named (step n c (sizes l) l.inputs (start n p l)).held h)
           (sym (named_start n o.answer.place o.lent h f) ∙ ap (λ (m : Registers). named m.held h) (start-after n c p l w));
-      counts = λ x e. let f = steps_counted n x c.b in record {
-        drawn = f.drawn;
-        long = f.long (takes n c p l x) (draws n c p l x);
-        grown = appended_by n c p l w x e;
-      };
+      moved = λ x f z. moved_by n c p l x (is_accepted n c p l x f z);
+      value = λ x f z. new_value n c p l w x (is_accepted n c p l x f z);
+      counts = λ x f z. counted_by n c p l x (is_accepted n c p l x f z);
       opened = λ f e. opened_by n c p l w v refl f (sym (number-decided n c p l v) ∙ e);
       not_opened = not_opened_by n c p l v refl;
       tables_kept = k.tables_kept;

@@ -22,7 +22,8 @@ use Rattle.machine.specs.Command.{Outcome, accepted, decided, command}
 use Rattle.machine.specs.Run.{Ran, ran, before, run_to_refusal, is_opened, sums_in_threes}
 use Rattle.machine.specs.Claims.{AddsUp}
 use Rattle.machine.proofs.Laws.Accepted.{has_room}
-use Rattle.machine.proofs.Laws.Refusals.{above_zero}
+use Rattle.machine.specs.Refusal.{number as refusal_number}
+use Rattle.machine.proofs.Laws.Rows.{numbered}
 use Rattle.machine.proofs.Laws.Rows.{same_code}
 use Rattle.machine.proofs.Laws.Steps.{steps_counted, open_hands}
 use Rattle.machine.proofs.Laws.ToRefusal.{no_answers, opened-first}
@@ -110,7 +111,7 @@ module _ (n : ℕ) (c : Command) (p : Place) (l : Lent) where
     s = [];
     gained = nothing_gained p l;
     opened = λ w. ap (λ (b : Bool). cond b (0 ∷ []) [] ++ sums_in_threes (modulus n) w)
-        (ap (λ (b : Bool). eqb c.code 11 && b) (ne_eqb r 0 (λ f. omega (arith, above_zero n c p l r e))) ∙ and-false (eqb c.code 11));
+        (ap (λ (b : Bool). eqb c.code 11 && b) (ne_eqb (refusal_number r) 0 (λ f. omega (arith, f, numbered r))) ∙ and-false (eqb c.code 11));
   }
 
   step : Step (command n c p l)

@@ -8,10 +8,13 @@ use native.Mathlib.Numerals.{add-one}
 use native.Mathlib.Omega.{arith}
 use lib.ListN.{length, get_or, take, drop, set, length-append, length-set, get_or-append}
 use lib.Seq.{take-suc, take_at, take-suc-set, length-take-le, get_or_at, get_or-set_same, get_or-set_other, sets, sets-eq}
+use Rattle.protocols.specs.declared.place.Party.{Party}
+use Rattle.protocols.specs.declared.place.Party.TheVariants.{Provider, One, Two, Three}
+use Rattle.protocols.specs.declared.place.Drawn.{Drawn}
 use Rattle.protocols.specs.declared.place.Place.{Place}
 use Rattle.protocols.specs.declared.shares.Shares.{Shares}
 use Rattle.protocols.specs.Shares.{Miner, one, two, three, at, AreWords}
-use Rattle.protocols.specs.Place.{Lists, Receiver, miner, controller, list}
+use Rattle.protocols.specs.Place.{count, plus, Lists, Receiver, miner, controller, list}
 use Rattle.protocols.specs.Contents.{Below}
 use Rattle.protocols.specs.Counts.{due}
 use Rattle.machine.specs.declared.row.Row.{Row}
@@ -97,6 +100,12 @@ due-list_lengths (miner one) l = refl
 due-list_lengths (miner two) l = refl
 due-list_lengths (miner three) l = refl
 due-list_lengths controller l = refl
+
+pub count-plus : (i : Party) (a b : Drawn) → count i (plus a b) ≡ count i a + count i b
+count-plus Provider a b = refl
+count-plus One a b = refl
+count-plus Two a b = refl
+count-plus Three a b = refl
 
 pub due-moved : (r : Receiver) (p : Place) (x : Row) → due r (moved p x).received ≡ due r p.received + due r x.received
 due-moved (miner one) p x = refl

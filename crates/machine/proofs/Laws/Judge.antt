@@ -13,6 +13,7 @@ use Rattle.std.specs.Prelude.{Result, Ok, Err}
 use Rattle.protocols.specs.declared.place.Place.{Place}
 use Rattle.protocols.specs.Shares.{Miner, one, two, three}
 use Rattle.machine.specs.declared.refusal.Refusal.{Refusal}
+use Rattle.machine.specs.declared.refusal.Refusal.TheVariants.{LentUnsoundly, FieldNotZero, HandleNotFilled, WrongKind, PositionOutside, TablesFull, InputsUsed}
 use Rattle.machine.specs.declared.code.Code.{Code}
 use Rattle.machine.specs.declared.row.Use.{Use}
 use Rattle.machine.specs.declared.row.Use.TheVariants.{Unused, Handle, Word, Position}
@@ -21,7 +22,7 @@ use Rattle.machine.specs.declared.lent.Sizes.{Sizes}
 use Rattle.machine.specs.declared.code.Command.{Command}
 use Rattle.machine.specs.Table.{find, kind_number, row}
 use Rattle.machine.specs.Lent.{table, Lent, sizes, entry, Filled}
-use Rattle.machine.specs.Verdict.{Verdict, Accepted, test, check, told, same_length, within, are_kinds, meets, filled, holding, fields, unused_zero, handles_filled, kinds_fit, in_word, tables_have, inputs_have, supplied, judged, looked_up, verdict}
+use Rattle.machine.specs.Verdict.{Verdict, Accepted, test, Checked, passed, check, after_checks, same_length, within, are_kinds, meets, filled, holding, fields, unused_zero, handles_filled, kinds_fit, in_word, tables_have, inputs_have, supplied, judged, looked_up, verdict}
 use Rattle.machine.specs.Registers.{judge}
 use Rattle.machine.specs.Start.{register_of, up_to, start}
 use Rattle.protocols.proofs.Laws.Deliveries.{both}
@@ -33,14 +34,15 @@ pub is_filled : (p : Place) (h : ℕ) → filled p h ≡ true → Filled p h
 is_filled p h e = let t = both (ltb 0 h) (leb h p.handles) e in (ltb-true 0 h t.0, leb-true h p.handles t.1)
 
 -- test 7 comes before test 8
-fits_alike : (h k k' : Bool) (n : ℕ) → (h ≡ true → k ≡ k') → check 7 h (check 8 k n) ≡ check 7 h (check 8 k' n)
-fits_alike true k k' n e = ap (λ (b : Bool). check 8 b n) (e refl)
-fits_alike false k k' n e = refl
+fits_alike : (h k k' : Bool) (next : Checked) → (h ≡ true → k ≡ k')
+    → check HandleNotFilled h (check WrongKind k next) ≡ check HandleNotFilled h (check WrongKind k' next)
+fits_alike true k k' next e = ap (λ (b : Bool). check WrongKind b next) (e refl)
+fits_alike false k k' next e = refl
 
 -- lengths and places come before the kinds
 sound-alike : (a b : Bool) (f : List ℕ → Bool) (v : List ℕ → Verdict) (k k' : List ℕ) → (a ≡ true → b ≡ true → k ≡ k')
-    → test 4 (a && (b && f k)) (v k) ≡ test 4 (a && (b && f k')) (v k')
-sound-alike true true f v k k' e = ap (λ (l : List ℕ). test 4 (f l) (v l)) (e refl refl)
+    → test LentUnsoundly (a && (b && f k)) (v k) ≡ test LentUnsoundly (a && (b && f k')) (v k')
+sound-alike true true f v k k' e = ap (λ (l : List ℕ). test LentUnsoundly (f l) (v l)) (e refl refl)
 sound-alike true false f v k k' e = refl
 sound-alike false b f v k k' e = refl
 
@@ -64,23 +66,23 @@ module _ (n : ℕ) (c : Command) (p : Place) (kinds : List ℕ) where
       → fields n x c (holding (take p.handles kinds)) (take p.handles kinds) ≡ fields n x c p kinds
   fields-taken x h =
       rw (length-take-le p.handles kinds h)
-      (ap (check 6 (unused_zero x c))
-      (fits_alike (handles_filled x p c) (kinds_fit x (take p.handles kinds) c) (kinds_fit x kinds c) (check 9 (in_word n x c) 0) (kinds_fit_lem x)))
+      (ap (check FieldNotZero (unused_zero x c))
+      (fits_alike (handles_filled x p c) (kinds_fit x (take p.handles kinds) c) (kinds_fit x kinds c) (check PositionOutside (in_word n x c) passed) (kinds_fit_lem x)))
 
 module _ (n : ℕ) (c : Command) (p : Place) (z : Sizes) (kinds : List ℕ) where
   looked_up-taken : (y : Result Code Refusal) → looked_up n y c p z (take p.handles kinds) ≡ looked_up n y c p z kinds
   unfolding judged
   looked_up-taken (Ok x) =
-      ap (λ (r : ℕ). told (check 6 (unused_zero (row n x) c) r) (supplied (row n x) p z (Accepted x)))
+      ap (λ (r : Checked). after_checks (check FieldNotZero (unused_zero (row n x) c) r) (supplied (row n x) p z (Accepted x)))
       (fits_alike (handles_filled (row n x) p c) (kinds_fit (row n x) (take p.handles kinds) c) (kinds_fit (row n x) kinds c)
-      (check 9 (in_word n (row n x) c) (check 10 (tables_have (row n x) p z.one) (check 11 (inputs_have (row n x) p z.inputs) 0)))
+      (check PositionOutside (in_word n (row n x) c) (check TablesFull (tables_have (row n x) p z.one) (check InputsUsed (inputs_have (row n x) p z.inputs) passed)))
       (kinds_fit_lem n c p kinds (row n x)))
   looked_up-taken (Err r) = refl
 
   verdict-taken : verdict n c p z (take p.handles kinds) ≡ verdict n c p z kinds
   unfolding verdict
   verdict-taken =
-      ap₂ (λ (t : Bool) (v : Verdict). test 4 (same_length z && (within p z && t)) v)
+      ap₂ (λ (t : Bool) (v : Verdict). test LentUnsoundly (same_length z && (within p z && t)) v)
       (ap are_kinds (take-take p.handles p.handles kinds (le_refl p.handles))) (looked_up-taken (find c.code))
 
   verdict-alike : (k : List ℕ) → (same_length z ≡ true → within p z ≡ true → k ≡ take p.handles kinds) → verdict n c p z k ≡ verdict n c p z kinds

@@ -7,26 +7,28 @@ use native.Mathlib.Nat.{eq-or-lt_of_le}
 use native.Mathlib.Omega.{arith}
 use Rattle.machine.proofs.Laws.Tests.{Decides, holds, fails}
 
--- A q: the number q applies. A chain gives values of B: `refuse q` for the number q, and one of which `Passes` holds where none applies.
-module _ {B : Type 0} (Passes : B → Type 0) (refuse : ℕ → B) (A : ℕ → Type 0) where
+-- A q: the number q applies. A chain gives values of B: `refuse r` for the refusal r, and one of which `Passes` holds
+-- where none applies.
+module _ {B R : Type 0} (Passes : B → Type 0) (refuse : R → B) (number : R → ℕ) (A : ℕ → Type 0) where
   -- of the numbers from k on, the lowest that applies is refused with, or none applies
   pub data Exact (k : ℕ) : B → Type 0 where
     passes : {v : B} → Passes v → ((q : ℕ) → k ≤ q → ¬ A q) → Exact k v
-    refuses : (r : ℕ) → A r → ((q : ℕ) → k ≤ q → q < r → ¬ A q) → Exact k (refuse r)
+    refuses : (r : R) → A (number r) → ((q : ℕ) → k ≤ q → q < number r → ¬ A q) → Exact k (refuse r)
 
 from_next : (A : ℕ → Type 0) (k q : ℕ) → k ≤ q → ¬ A k → (k < q → ¬ A q) → ¬ A q
 from_next A k q h no-k above = elim (eq-or-lt_of_le h) [ inl e ↦ subst (λ (j : ℕ). ¬ A j) e no-k | inr g ↦ above g ]
 
-module _ {B : Type 0} {Passes : B → Type 0} {refuse : ℕ → B} {A : ℕ → Type 0} where
+module _ {B R : Type 0} {Passes : B → Type 0} {refuse : R → B} {number : R → ℕ} {A : ℕ → Type 0} where
   -- a number that does not apply, before the chain
-  pub lower : {k : ℕ} {v : B} → ¬ A k → Exact Passes refuse A (suc k) v → Exact Passes refuse A k v
+  pub lower : {k : ℕ} {v : B} → ¬ A k → Exact Passes refuse number A (suc k) v → Exact Passes refuse number A k v
   lower {k} n (passes p f) = passes p (λ q h. from_next A k q h n (f q))
   lower {k} n (refuses r h f) = refuses r h (λ q g i. from_next A k q g n (λ j. f q j i))
 
   -- a test before the chain
-  pub step : {b : Bool} {v : B} (k : ℕ) → Decides (A k) b → (¬ A k → Exact Passes refuse A (suc k) v) → Exact Passes refuse A k (cond b v (refuse k))
-  step k (holds h) next = lower h (next h)
-  step k (fails h) next = refuses k h (λ q f g. absurd (omega arith))
+  pub step : {b : Bool} {v : B} (r : R) → let k = number r in
+      Decides (A k) b → (¬ A k → Exact Passes refuse number A (suc k) v) → Exact Passes refuse number A k (cond b v (refuse r))
+  step r (holds h) next = lower h (next h)
+  step r (fails h) next = refuses r h (λ q f g. absurd (omega arith))
 
 -- there is one lowest number that applies, where none below k does
 pub same_lowest : {A : ℕ → Type 0} {k q r : ℕ} → ((j : ℕ) → A j → k ≤ j) → A q → ((j : ℕ) → k ≤ j → j < q → ¬ A j)

@@ -15,11 +15,13 @@ use Rattle.protocols.specs.Place.{tape, count, Receiver, list}
 use Rattle.protocols.specs.Counts.{due}
 use Rattle.machine.specs.declared.code.Code.{Code}
 use Rattle.machine.specs.declared.refusal.Refusal.{Refusal}
+use Rattle.machine.specs.declared.refusal.Refusal.TheVariants.{LentUnsoundly, UnknownCode, FieldNotZero, HandleNotFilled, WrongKind, PositionOutside, TablesFull, InputsUsed, TapeSpent, ListFull}
 use Rattle.machine.specs.declared.row.Use.TheVariants.{Unused, Handle, Position}
 use Rattle.machine.specs.declared.code.Command.{Command}
+use Rattle.machine.specs.Refusal as table
 use Rattle.machine.specs.Table.{find, kind_number, row}
 use Rattle.machine.specs.Lent.{Lent, sizes, table, entry, Filled}
-use Rattle.machine.specs.Verdict.{Verdict, Accepted, Refused, number, test, check, told, same_length, within, sound, unused_zero, handles_filled, kinds_fit, in_word, tables_have, inputs_have, tapes_have, lists_have, supplied, judged, looked_up, verdict}
+use Rattle.machine.specs.Verdict.{Verdict, Accepted, Refused, test, check, passed, after_checks, same_length, within, sound, unused_zero, handles_filled, kinds_fit, in_word, tables_have, inputs_have, tapes_have, lists_have, supplied, judged, looked_up, verdict}
 use Rattle.machine.specs.Command.{answer, outcome, accepted, decided, command}
 use Rattle.machine.specs.Refusals.{Counter, handles, inputs, drawn, received, counted, list_length, Field, field, use_of, Applies, lengths_differ, place_beyond, no_kind, no_code, unused_field, not_filled, wrong_kind, over_position, tables_full, inputs_used, spent_tape, list_full, Lowest}
 use Rattle.machine.specs.Claims.{Entry1}
@@ -33,18 +35,21 @@ Passes (Accepted x) = Unit {0}
 Passes (Refused r) = ⊥
 
 abbrev Judged : (ℕ → Type 0) → ℕ → Verdict → Type 0
-Judged = Exact Passes Refused
+Judged = Exact Passes Refused table.number
 
 -- the checks are tests
-told_tests : (a b c d e f : Bool) (next : Verdict) → told (check 6 a (check 7 b (check 8 c (check 9 d (check 10 e (check 11 f 0)))))) next
-    ≡ test 6 a (test 7 b (test 8 c (test 9 d (test 10 e (test 11 f next)))))
-told_tests true true true true true true next = refl
-told_tests true true true true true false next = refl
-told_tests true true true true false f next = refl
-told_tests true true true false e f next = refl
-told_tests true true false d e f next = refl
-told_tests true false c d e f next = refl
-told_tests false b c d e f next = refl
+checks_tests : (a b c d e f : Bool) (next : Verdict)
+    → after_checks
+    (check FieldNotZero a (check HandleNotFilled b (check WrongKind c (check PositionOutside d (check TablesFull e (check InputsUsed f passed))))))
+    next
+    ≡ test FieldNotZero a (test HandleNotFilled b (test WrongKind c (test PositionOutside d (test TablesFull e (test InputsUsed f next)))))
+checks_tests true true true true true true next = refl
+checks_tests true true true true true false next = refl
+checks_tests true true true true false f next = refl
+checks_tests true true true false e f next = refl
+checks_tests true true false d e f next = refl
+checks_tests true false c d e f next = refl
+checks_tests false b c d e f next = refl
 
 -- ---- each test decides its line of the table
 
@@ -223,10 +228,10 @@ module _ (n : ℕ) (c : Command) (p : Place) (l : Lent) where
     unfolding judged
     from_6 =
         subst (Judged (Applies n c p l) 6)
-        (sym (told_tests (unused_zero (row n x) c) (handles_filled (row n x) p c) (kinds_fit (row n x) l.kinds c) (in_word n (row n x) c)
+        (sym (checks_tests (unused_zero (row n x) c) (handles_filled (row n x) p c) (kinds_fit (row n x) l.kinds c) (in_word n (row n x) c)
         (tables_have (row n x) p (sizes l).one) (inputs_have (row n x) p (sizes l).inputs) (supplied (row n x) p (sizes l) (Accepted x))))
-        (step 6 test_6 (λ n6. step 7 test_7 (λ n7. step 8 (test_8 n7) (λ n8. step 9 test_9 (λ n9. step 10 test_10 (λ n10. step 11 test_11 (λ n11.
-        step 12 test_12 (λ n12. step 13 test_13 (λ n13. passes tt none)))))))))
+        (step FieldNotZero test_6 (λ n6. step HandleNotFilled test_7 (λ n7. step WrongKind (test_8 n7) (λ n8. step PositionOutside test_9 (λ n9. step TablesFull test_10 (λ n10. step InputsUsed test_11 (λ n11.
+        step TapeSpent test_12 (λ n12. step ListFull test_13 (λ n13. passes tt none)))))))))
       where
         none : (q : ℕ) → 14 ≤ q → ¬ Applies n c p l q
         none q h s = omega (arith, bounds s)
@@ -238,11 +243,11 @@ module _ (n : ℕ) (c : Command) (p : Place) (l : Lent) where
     where
       no_5 : ¬ Applies n c p l 5
       no_5 (no_code h) = h (f, g)
-  from_5 (missing h) e = refuses 5 (no_code h) (λ q f g. absurd (omega arith))
+  from_5 (missing h) e = refuses UnknownCode (no_code h) (λ q f g. absurd (omega arith))
 
   exact : Judged (Applies n c p l) 4 (verdict n c p (sizes l) l.kinds)
   unfolding verdict
-  exact = step 4 test_4 (λ n4. from_5 (known c.code) refl)
+  exact = step LentUnsoundly test_4 (λ n4. from_5 (known c.code) refl)
 
   -- ---- what is answered
 
@@ -261,15 +266,7 @@ module _ (n : ℕ) (c : Command) (p : Place) (l : Lent) where
   unfolding accepted
   accepted-at {v = Refused q} (passes t none) = absurd t
   accepted-at {v = Accepted x} (passes t none) = (λ e r s. none r (bounds s).0 s, λ h. refl)
-  accepted-at (refuses r s below) = (λ e. absurd (omega (arith, bounds s)), λ h. absurd (h r s))
-
-refused_applies : {A : ℕ → Type 0} {k : ℕ} {v : Verdict} → Judged A k v → (r : ℕ) → v ≡ Refused r → A r
-refused_applies {A} (passes t none) r e = absurd (subst Passes e t)
-refused_applies {A} (refuses q s below) r e = subst A (ap number e) s
-
--- a refusal has a number of the table
-pub above_zero : (n : ℕ) (c : Command) (p : Place) (l : Lent) (r : ℕ) → verdict n c p (sizes l) l.kinds ≡ Refused r → 0 < r
-above_zero n c p l r e = omega (arith, bounds n c p l (refused_applies (exact n c p l) r e))
+  accepted-at (refuses r s below) = (λ e. absurd (omega (arith, bounds s)), λ h. absurd (h (table.number r) s))
 
 pub entry_1 : (n : ℕ) (c : Command) (p : Place) (l : Lent) → Entry1 n c p l
 unfolding command

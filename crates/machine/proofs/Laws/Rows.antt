@@ -9,9 +9,31 @@ use Rattle.std.specs.Prelude.{Result, Ok, Err}
 use Rattle.machine.specs.declared.code.Code.{Code}
 use Rattle.machine.specs.declared.code.Code.TheVariants.{Store, Add, Subtract, AddConstant, TimesConstant, Multiply, Reshare, Bits, Bit, Equal, Open, Below}
 use Rattle.machine.specs.declared.refusal.Refusal.{Refusal}
-use Rattle.machine.specs.declared.refusal.Refusal.TheVariants.{UnknownCode}
+use Rattle.machine.specs.declared.refusal.Refusal.TheVariants.{NotWhole, ContentsBroken, OverLimit, LentUnsoundly, UnknownCode, FieldNotZero, HandleNotFilled, WrongKind, PositionOutside, TablesFull, InputsUsed, TapeSpent, ListFull}
+use Rattle.machine.specs.Refusal.{number}
 use Rattle.machine.specs.Table.{find, row, opens}
+use Rattle.machine.specs.Claims.{TableAt32}
 use Rattle.machine.proofs.Laws.Tests.{Decides, holds, fails, stable, by_eq}
+
+-- ---- the table at 32 bits, by computation
+
+pub table_at_32 : TableAt32
+table_at_32 = record {
+  ring_value = refl;
+  bit_word = refl;
+  store = (refl, refl);
+  add = (refl, refl);
+  subtract = (refl, refl);
+  add_constant = (refl, refl);
+  times_constant = (refl, refl);
+  multiply = (refl, refl);
+  reshare = (refl, refl);
+  bits = (refl, refl);
+  bit = (refl, refl);
+  equal = (refl, refl);
+  opening = (refl, refl);
+  below = (refl, refl);
+}
 
 -- ---- counts
 
@@ -44,6 +66,23 @@ takes_input n Bit h = absurd (omega arith)
 takes_input n Equal h = absurd (omega arith)
 takes_input n Open h = absurd (omega arith)
 takes_input n Below h = absurd (omega arith)
+
+-- ---- each line of the table of refusals has a number
+
+pub numbered : (r : Refusal) → 1 ≤ number r
+numbered NotWhole = lit≤ tt
+numbered ContentsBroken = lit≤ tt
+numbered OverLimit = lit≤ tt
+numbered LentUnsoundly = lit≤ tt
+numbered UnknownCode = lit≤ tt
+numbered FieldNotZero = lit≤ tt
+numbered HandleNotFilled = lit≤ tt
+numbered WrongKind = lit≤ tt
+numbered PositionOutside = lit≤ tt
+numbered TablesFull = lit≤ tt
+numbered InputsUsed = lit≤ tt
+numbered TapeSpent = lit≤ tt
+numbered ListFull = lit≤ tt
 
 -- ---- the code words from 1 to 12 have a command
 

@@ -17,11 +17,11 @@ use Rattle.machine.specs.declared.answer.Answer.{Answer}
 use Rattle.machine.specs.declared.answer.Run.{Run}
 use Rattle.machine.specs.Table.{command as asked}
 use Rattle.machine.specs.Lent.{Lent, sizes}
-use Rattle.machine.specs.Verdict.{sound, check, verdict}
+use Rattle.machine.specs.Verdict.{sound, verdict}
 use Rattle.machine.specs.Command.{Outcome, answer, outcome, command}
 use Rattle.machine.specs.Run.{Ran, ran, before, run_to_refusal, commands_of, accepted, refused_with, last_of, Ended, ended, end_of}
 use Rattle.machine.proofs.Laws.Runs.{to_refusal_none, to_refusal-first}
-use Rattle.machine.proofs.Laws.Threes.{of_words, commands_cut, commands_none}
+use Rattle.machine.proofs.Laws.Threes.{of_words, commands_cut}
 use Rattle.machine.proofs.Laws.Sound.{sound-after}
 
 -- the end of a run after k commands done before it, the last of them with the answer a
@@ -104,7 +104,7 @@ refused_unsound n c p l e = rw e
 
 module _ (p : Place) (l : Lent) (s : sound p (sizes l) l.kinds ≡ false) where
   -- the first command is refused, if there is one
-  at_first : (words : List ℕ) → ended (record { done = 0; last = answer (check 4 (ltb (length words) 3) 0) p 0 }) l
+  at_first : (words : List ℕ) → ended (record { done = 0; last = answer (cond (ltb (length words) 3) 0 4) p 0 }) l
       ≡ end_of p (run_to_refusal 5 (commands_of words) p l)
   unfolding commands_of
   at_first [] = none_left 0 (answer 0 p 0) l ∙ none_before p (run_to_refusal 5 [] p l)
@@ -115,20 +115,9 @@ module _ (p : Place) (l : Lent) (s : sound p (sizes l) l.kinds ≡ false) where
       (first-refused (asked x y z) (commands_of r) 0 (answer 0 p 0) l (outcome (answer 4 p 0) l) (sym (refused_unsound 5 (asked x y z) p l s)) (λ f. omega arith)
       ∙ none_before p (run_to_refusal 5 (asked x y z ∷ commands_of r) p l))
 
-  pub run_refused_first : (words : List ℕ) (r : Run) → (r.done ≡ 0) × (r.last ≡ answer (check 4 (ltb (length words) 3) 0) p 0)
+  pub run_refused_first : (words : List ℕ) (r : Run) → (r.done ≡ 0) × (r.last ≡ answer (cond (ltb (length words) 3) 0 4) p 0)
       → ended r l ≡ end_of p (run_to_refusal 5 (commands_of words) p l)
   run_refused_first words r e = (λ i. ended (record { done = e.0 i; last = e.1 i }) l) ∙ at_first words
-
--- a run of none, and one where number 4 applies to the first command
-module _ (cs : List ℕ) (p : Place) (l : Lent) where
-  pub run_none : length cs < 3 → (a : Answer) → a ≡ answer 0 p 0 → ended (record { done = 0; last = a }) l ≡ end_of p (run_to_refusal 5 (commands_of cs) p l)
-  run_none h a e = rw (e, commands_none cs h) (none_left 0 (answer 0 p 0) l ∙ none_before p (run_to_refusal 5 [] p l))
-
-  pub run_unsound : ¬ (length cs < 3) → sound p (sizes l) l.kinds ≡ false → (a : Answer) → a ≡ answer 4 p 0
-      → ended (record { done = 0; last = a }) l ≡ end_of p (run_to_refusal 5 (commands_of cs) p l)
-  run_unsound h s a e =
-      let long : 3 ≤ length cs = omega (arith, h) in
-      run_refused_first p l s cs (record { done = 0; last = a }) (refl, rw (le-ltb (length cs) 3 long) e)
 
 -- ---- its last answer
 

@@ -17,8 +17,11 @@ use Rattle.protocols.specs.Place.{Tapes, tape, count, in_order, advance, block}
 use Rattle.protocols.specs.Protocol.{Protocol, on, done, perform}
 use Rattle.protocols.specs.Contents.{Contents}
 use Rattle.protocols.specs.Counts.{Counted}
-use Rattle.protocols.specs.Claims.{RingCombines, BitsCombine, Lacks}
-use Rattle.protocols.proofs.Claims.{claims}
+use Rattle.protocols.specs.Claims.{RingCombines, Lacks}
+use Rattle.protocols.proofs.Laws.Counts.{table}
+use Rattle.protocols.proofs.Laws.RingCombine.{ring_combines}
+use Rattle.protocols.proofs.Laws.BitsCombine.{bits_combine}
+use Rattle.protocols.proofs.Laws.Perform.{on_tapes}
 use Rattle.protocols.proofs.Laws.Blocks.{block_same}
 use Rattle.machine.specs.declared.code.Code.{Code}
 use Rattle.machine.specs.declared.code.Code.TheVariants.{Store, Add, Subtract, AddConstant, TimesConstant, Multiply, Reshare, Bits, Bit, Equal, Open, Below}
@@ -27,12 +30,10 @@ use Rattle.machine.specs.declared.code.Command.{Command}
 use Rattle.machine.specs.Table.{kind_number, row}
 use Rattle.machine.specs.Lent.{Lent, tape_lengths, sizes}
 use Rattle.machine.specs.Steps.{both, protocol}
-use Rattle.machine.specs.Command.{given}
 use Rattle.machine.specs.Accept.{IfHandle}
 use Rattle.machine.specs.Registers.{value}
 use Rattle.machine.specs.Start.{combined}
-use Rattle.machine.specs.Claims.{NeverSpent}
-use Rattle.machine.proofs.Laws.Accepted.{every_one, Passed, all_passed}
+use Rattle.machine.proofs.Laws.Accepted.{every_one, Passed}
 
 -- what a command works on is words
 abbrev pub GivenAreWords : ℕ → Code → Given → Type 0
@@ -55,26 +56,23 @@ counted-on part good e = record {
 pub steps_counted : (n : ℕ) (x : Code) (b : ℕ)
     → Counted (modulus n) (protocol n x b) (GivenAreWords n x) (AreWords (modulus n)) (row n x).drawn (row n x).received
 unfolding protocol
-steps_counted n Store b = counted-on (λ g. g.input) (λ g h. h.0) (claims.table n).store_row
-steps_counted n Add b = counted-on both (λ g h. (h.1, h.2)) (claims.table n).sum_row
-steps_counted n Subtract b = counted-on both (λ g h. (h.1, h.2)) (claims.table n).difference_row
-steps_counted n AddConstant b = counted-on (λ g. g.u) (λ g h. h.1) ((claims.table n).shifted_row b)
-steps_counted n TimesConstant b = counted-on (λ g. g.u) (λ g h. h.1) ((claims.table n).multiple_row b)
-steps_counted n Multiply b = counted-on both (λ g h. (h.1, h.2)) (claims.table n).multiply_row
-steps_counted n Reshare b = counted-on (λ g. g.u) (λ g h. h.1) (claims.table n).reshare_row
-steps_counted n Bits b = counted-on (λ g. g.u) (λ g h. h.1) (claims.table n).bits_row
-steps_counted n Bit b = counted-on (λ g. g.u) (λ g h. h.1) ((claims.table n).bit_row b)
-steps_counted n Equal b = counted-on both (λ g h. (h.1, h.2)) (claims.table n).equal_row
-steps_counted n Open b = counted-on (λ g. g.u) (λ g h. h.1) (claims.table n).opening_row
-steps_counted n Below b = counted-on both (λ g h. (h.1, h.2)) (claims.table n).below_row
+steps_counted n Store b = counted-on (λ g. g.input) (λ g h. h.0) (table n).store_row
+steps_counted n Add b = counted-on both (λ g h. (h.1, h.2)) (table n).sum_row
+steps_counted n Subtract b = counted-on both (λ g h. (h.1, h.2)) (table n).difference_row
+steps_counted n AddConstant b = counted-on (λ g. g.u) (λ g h. h.1) ((table n).shifted_row b)
+steps_counted n TimesConstant b = counted-on (λ g. g.u) (λ g h. h.1) ((table n).multiple_row b)
+steps_counted n Multiply b = counted-on both (λ g h. (h.1, h.2)) (table n).multiply_row
+steps_counted n Reshare b = counted-on (λ g. g.u) (λ g h. h.1) (table n).reshare_row
+steps_counted n Bits b = counted-on (λ g. g.u) (λ g h. h.1) (table n).bits_row
+steps_counted n Bit b = counted-on (λ g. g.u) (λ g h. h.1) ((table n).bit_row b)
+steps_counted n Equal b = counted-on both (λ g h. (h.1, h.2)) (table n).equal_row
+steps_counted n Open b = counted-on (λ g. g.u) (λ g h. h.1) (table n).opening_row
+steps_counted n Below b = counted-on both (λ g h. (h.1, h.2)) (table n).below_row
 
 -- ---- new values
 
 ring : (n : ℕ) → RingCombines (modulus n)
-ring n = claims.combine.0 (modulus n) (pow_pos (width n))
-
-bitwise : (n : ℕ) → BitsCombine n
-bitwise n = claims.combine.1 n
+ring n = ring_combines (modulus n) (pow_pos (width n))
 
 -- the new shares combine to the register machine's value, from what the operands' shares combine to
 pub steps_combine : (n : ℕ) (x : Code) (b : ℕ) (g : Given) (t : Tapes) → GivenAreWords n x g → Contents (modulus n) (protocol n x b).draws t
@@ -88,11 +86,11 @@ steps_combine n AddConstant b g t h c = (ring n).shifted_combines b g.u
 steps_combine n TimesConstant b g t h c = (ring n).multiple_combines b g.u
 steps_combine n Multiply b g t h c = (ring n).multiply_combines (both g) t
 steps_combine n Reshare b g t h c = (ring n).reshare_combines g.u t
-steps_combine n Bits b g t h c = (bitwise n).bits_combines g.u t c
-steps_combine n Bit b g t h c = (bitwise n).bit_combines b g.u t
-steps_combine n Equal b g t h c = (bitwise n).equal_combines (both g) t
+steps_combine n Bits b g t h c = (bits_combine n).bits_combines g.u t c
+steps_combine n Bit b g t h c = (bits_combine n).bit_combines b g.u t
+steps_combine n Equal b g t h c = (bits_combine n).equal_combines (both g) t
 steps_combine n Open b g t h c = (ring n).opening_combines g.u t
-steps_combine n Below b g t h c = (bitwise n).below_combines (both g) t c
+steps_combine n Below b g t h c = (bits_combine n).below_combines (both g) t c
 
 -- an open hands the controller its result, in miner order; no other command hands it anything, by its row
 pub open_hands : (n b : ℕ) (g : Given) (t : Tapes) → ((protocol n Open b).received g t).controller ≡ in_order ((protocol n Open b).result g t)
@@ -109,7 +107,7 @@ count-lengths Two t = refl
 count-lengths Three t = refl
 
 -- each tape has the words left that an accepted command's row draws
-never_lacks : (n : ℕ) (x : Code) (c : Command) (p : Place) (l : Lent) → Passed n x c p (sizes l) l.kinds
+pub never_lacks : (n : ℕ) (x : Code) (c : Command) (p : Place) (l : Lent) → Passed n x c p (sizes l) l.kinds
     → (i : Party) → ¬ Lacks (row n x).drawn p l.tapes i
 never_lacks n x c p l a i lacks =
     let left = every_one (λ j. leb (count j (row n x).drawn) (count j (tape_lengths l.tapes) - count j p.drawn)) a.twelve i in
@@ -124,10 +122,5 @@ pub performs : (n : ℕ) (x : Code) (b : ℕ) (g : Given) (p q : Place) (t : Tap
 performs n x b g p q t e never =
     let f = protocol n x b in
     let drawn : f.draws ≡ (row n x).drawn = (steps_counted n x b).drawn in
-    (claims.on_tapes f g q t).done_if (λ i lacks. never i (subst₂ (λ (d k : Drawn). length (tape i t) - count i k < count i d) drawn e lacks))
+    (on_tapes f g q t).done_if (λ i lacks. never i (subst₂ (λ (d k : Drawn). length (tape i t) - count i k < count i d) drawn e lacks))
     ∙ ap₂ (λ (w : Tapes) (d : Drawn). done (f.result g w) (f.received g w) (advance q d)) (block_same f.draws q p t e) drawn
-
--- on lent tapes an accepted command's protocol is never spent
-pub never_spent : (n : ℕ) (c : Command) (p : Place) (l : Lent) → NeverSpent n c p l
-never_spent n c p l x e q same =
-    performs n x c.b (given l.tables l.inputs p c) p q l.tapes same (never_lacks n x c p l (all_passed n x c p (sizes l) l.kinds e))

@@ -1,5 +1,5 @@
 -- Numbers 12 and 13: a command's protocol tells them itself, on the unfilled part of each list.
-use Prim.Native.Nat.{ℕ, suc, ◌+◌, ◌-◌, ◌≤◌, ◌<◌}
+use Prim.Native.Nat.{◌+◌, ◌-◌, ◌≤◌, ◌<◌}
 use mathlib.Core.Path.{◌≡◌, refl, sym, subst, ◌∙◌}
 use mathlib.Core.Bool.{Bool, true, false}
 use native.Mathlib.Omega.{arith}
@@ -14,12 +14,16 @@ use Rattle.protocols.specs.Shares.{one, two, three}
 use Rattle.protocols.specs.Place.{Tapes, tape, Lists, Receiver, miner, controller, list, count, advance, block}
 use Rattle.protocols.specs.Protocol.{Protocol, Answer, done, perform}
 use Rattle.protocols.specs.Counts.{due}
-use Rattle.protocols.specs.Outcome.{finished, refused, delivered, delivery, fronts}
+use Rattle.protocols.specs.declared.outcome.Shortage.{Shortage}
+use Rattle.protocols.specs.declared.outcome.Shortage.TheVariants.{TapeSpent, ListFull}
+use Rattle.protocols.specs.Outcome.{number, finished, refused, delivered, delivery, fronts}
 use Rattle.protocols.specs.Claims.{Lacks}
-use Rattle.protocols.proofs.Claims.{claims}
+use Rattle.protocols.proofs.Laws.Perform.{on_tapes}
+use Rattle.protocols.proofs.Laws.Deliveries.{delivers}
 use Rattle.machine.specs.declared.code.Code.{Code}
 use Rattle.machine.specs.declared.code.Command.{Command}
 use Rattle.machine.specs.declared.given.Given.{Given}
+use Rattle.machine.specs.Refusal as table
 use Rattle.machine.specs.Table.{row}
 use Rattle.machine.specs.Lent.{Lent, tape_lengths, list_lengths, sizes}
 use Rattle.machine.specs.Verdict.{Verdict, Accepted, Refused, tapes_have, lists_have, supplied}
@@ -63,7 +67,8 @@ module _ (x : Code) (c : Command) (p : Place) (l : Lent) where
 
 -- the protocol's outcome o, with the lists b, by the verdict
 pub data Told (x : Code) (c : Command) (p : Place) (l : Lent) (o : Outcome) (b : Lists) : Type 0 where
-  lacking : (k : ℕ) → supplied (row 5 x) p (sizes l) (Accepted x) ≡ Refused (suc k) → delivered o b ≡ delivered (refused (suc k) p) (part x c p l) → Told x c p l o b
+  lacking : (s : Shortage) → supplied (row 5 x) p (sizes l) (Accepted x) ≡ Refused (table.lacking s) → delivered o b ≡ delivered (refused (number s) p) (part x c p l)
+      → Told x c p l o b
   having : supplied (row 5 x) p (sizes l) (Accepted x) ≡ Accepted x → ((r : Receiver) → due r p.received + due r (row 5 x).received ≤ length (list r l.received))
       → delivered o b ≡ delivered (finished ((f x c p l).result (g x c p l) (drawn x c p l)) (advance p (row 5 x).drawn)) (fronts (part x c p l) ((f x c p l).received (g x c p l) (drawn x c p l)))
       → Told x c p l o b
@@ -92,14 +97,14 @@ supplied-told x c p l begun {o} {b} e = by_tapes (tapes_have (row 5 x) p (sizes 
     by_lists t made true m (holds h) =
         let fit : (r : Receiver) → ¬ (length (list r l.received) - due r p.received < due r (row 5 x).received) = λ r s. h (r, omega (arith, s, due-list_lengths r l.received)) in
         having (rw (t, m)) (λ r. omega (arith, fit r, begun-list begun r))
-        (made ∙ (claims.deliveries p (part x c p l) ((f x c p l).result (g x c p l) (drawn x c p l)) ((f x c p l).received (g x c p l) (drawn x c p l)) (advance p (row 5 x).drawn)).done_if (λ r. omega (arith, fit r, begun-list begun r, unfilled-length p.received l.received r, words r)))
+        (made ∙ (delivers p (part x c p l) ((f x c p l).result (g x c p l) (drawn x c p l)) ((f x c p l).received (g x c p l) (drawn x c p l)) (advance p (row 5 x).drawn)).done_if (λ r. omega (arith, fit r, begun-list begun r, unfilled-length p.received l.received r, words r)))
     by_lists t made false m (fails s) =
         let r = s.0 in
-        lacking 12 (rw (t, m))
-        (made ∙ (claims.deliveries p (part x c p l) ((f x c p l).result (g x c p l) (drawn x c p l)) ((f x c p l).received (g x c p l) (drawn x c p l)) (advance p (row 5 x).drawn)).full_if r (omega (arith, s.1, due-list_lengths r l.received, unfilled-length p.received l.received r, words r)))
+        lacking ListFull (rw (t, m))
+        (made ∙ (delivers p (part x c p l) ((f x c p l).result (g x c p l) (drawn x c p l)) ((f x c p l).received (g x c p l) (drawn x c p l)) (advance p (row 5 x).drawn)).full_if r (omega (arith, s.1, due-list_lengths r l.received, unfilled-length p.received l.received r, words r)))
 
     by_tapes : (i : Bool) → tapes_have (row 5 x) p (sizes l) ≡ i → Decides ((i : Party) × short_tape i) i → Told x c p l o b
     by_tapes true t (holds h) =
         by_lists t (subst to (performs 5 x c.b (g x c p l) p p l.tapes refl (λ i s. h (i, omega (arith, s, count-lengths i l.tapes)))) e)
         (lists_have (row 5 x) p (sizes l)) refl (some_list (λ r. due r (row 5 x).received) (λ r. due r (list_lengths l.received) - due r p.received))
-    by_tapes false t (fails s) = lacking 11 (rw t) (subst to ((claims.on_tapes (f x c p l) (g x c p l) p l.tapes).spent_if s.0 (lacks s.0 s.1)) e)
+    by_tapes false t (fails s) = lacking TapeSpent (rw t) (subst to ((on_tapes (f x c p l) (g x c p l) p l.tapes).spent_if s.0 (lacks s.0 s.1)) e)

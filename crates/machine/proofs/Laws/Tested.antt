@@ -1,13 +1,13 @@
--- Numbers 6 to 11 as the code tells them, the fields and then the room; and what their number says of the verdict.
-use Prim.Native.Nat.{ℕ, zero, suc, ◌+◌, ◌≤◌}
+-- Numbers 6 to 11 as the code tests them, the fields and then the room; and what they say of the verdict.
+use Prim.Native.Nat.{ℕ, ◌+◌, ◌≤◌}
 use mathlib.Core.Path.{◌≡◌, refl, sym, ap, ◌∙◌}
 use mathlib.Core.Bool.{Bool, true, false, ◌&&◌}
 use mathlib.Core.List.{List}
 use native.Mathlib.Omega.{arith}
 use borrow.Author.Tests.{leb-true}
 use lib.ListN.{length, take}
-use lib.Dec.{leb, lit≤}
-use Rattle.std.specs.Prelude.{nat_lt, nat_le}
+use lib.Dec.{leb}
+use Rattle.std.specs.Prelude.{nat_lt, nat_le, Err}
 use Rattle.protocols.specs.declared.place.Place.{Place}
 use Rattle.protocols.specs.Shares.{Miner, one, two, three}
 use Rattle.protocols.specs.Place.{Receiver, miner, controller}
@@ -17,91 +17,57 @@ use Rattle.machine.specs.declared.code.Code.{Code}
 use Rattle.machine.specs.declared.code.Command.{Command}
 use Rattle.machine.specs.declared.lent.Sizes.{Sizes}
 use Rattle.machine.specs.declared.refusal.Refusal.{Refusal}
-use Rattle.machine.specs.declared.refusal.Refusal.TheVariants.{NotWhole, ContentsBroken, OverLimit, LentUnsoundly, UnknownCode, FieldNotZero, HandleNotFilled, WrongKind, PositionOutside, TablesFull, InputsUsed, TapeSpent, ListFull}
+use Rattle.machine.specs.declared.refusal.Refusal.TheVariants.{FieldNotZero, HandleNotFilled, WrongKind, PositionOutside}
 use Rattle.machine.specs.declared.row.Row.{Row}
 use Rattle.machine.specs.declared.row.Use.{Use}
 use Rattle.machine.specs.declared.row.Use.TheVariants.{Unused, Handle, Word, Position}
-use Rattle.machine.specs.Refusal.{number}
 use Rattle.machine.specs.Table.{row}
 use Rattle.machine.specs.Lent.{table, Lent, sizes}
-use Rattle.machine.specs.Verdict.{Verdict, Refused, check, told, same_length, within, are_kinds, meets, filled, sound, unused_zero, handles_filled, kinds_fit, in_word, holding, fields, room as room_left, refusal, supplied, judged}
+use Rattle.machine.specs.Verdict.{Verdict, Checked, passed, check, after_checks, same_length, within, are_kinds, meets, filled, sound, unused_zero, handles_filled, kinds_fit, in_word, holding, fields, room as room_left, refusal, supplied, judged}
 use Rattle.machine.specs.Accept.{HaveEntries, HasEntry, IfHandle, Begun}
-use Rattle.machine.proofs.Laws.Accepted.{every_list_lem, refusal_passed, room, places_within}
+use Rattle.machine.proofs.Laws.Accepted.{ok_not, every_list_lem, refusal_passed, room, places_within}
 use Rattle.machine.proofs.Laws.Judge.{fields-taken, same-lengths}
 
--- ---- a number, and the checks after it
+-- ---- the checks of the fields, and those of the room after them
 
--- each line of the table has a number
-pub numbered : (r : Refusal) → 1 ≤ number r
-numbered NotWhole = lit≤ tt
-numbered ContentsBroken = lit≤ tt
-numbered OverLimit = lit≤ tt
-numbered LentUnsoundly = lit≤ tt
-numbered UnknownCode = lit≤ tt
-numbered FieldNotZero = lit≤ tt
-numbered HandleNotFilled = lit≤ tt
-numbered WrongKind = lit≤ tt
-numbered PositionOutside = lit≤ tt
-numbered TablesFull = lit≤ tt
-numbered InputsUsed = lit≤ tt
-numbered TapeSpent = lit≤ tt
-numbered ListFull = lit≤ tt
+-- what the first four refuse stays
+ended : (a b c d : Bool) (next : Checked) {r : Refusal}
+    → Err r ≡ check FieldNotZero a (check HandleNotFilled b (check WrongKind c (check PositionOutside d passed)))
+    → Err r ≡ check FieldNotZero a (check HandleNotFilled b (check WrongKind c (check PositionOutside d next)))
+ended true true true true next e = absurd (ok_not e)
+ended true true true false next e = e
+ended true true false d next e = e
+ended true false c d next e = e
+ended false b c d next e = e
 
-pub not_none : (r : Refusal) → ¬ (number r ≡ 0)
-not_none r z = omega (arith, numbered r, z)
-
--- a number of the first four checks stays
-ended : (a b c d : Bool) (next : ℕ) {r : ℕ} → r ≡ check 6 a (check 7 b (check 8 c (check 9 d 0))) → 1 ≤ r → r ≡ check 6 a (check 7 b (check 8 c (check 9 d next)))
-ended true true true true next e h = absurd (omega arith)
-ended true true true false next e h = e
-ended true true false d next e h = e
-ended true false c d next e h = e
-ended false b c d next e h = e
-
--- at 0 the next check counts
-further : (a b c d : Bool) (next : ℕ) → 0 ≡ check 6 a (check 7 b (check 8 c (check 9 d 0))) → next ≡ check 6 a (check 7 b (check 8 c (check 9 d next)))
+-- where they hold the next one counts
+further : (a b c d : Bool) (next : Checked)
+    → passed ≡ check FieldNotZero a (check HandleNotFilled b (check WrongKind c (check PositionOutside d passed)))
+    → next ≡ check FieldNotZero a (check HandleNotFilled b (check WrongKind c (check PositionOutside d next)))
 further true true true true next e = refl
-further true true true false next e = absurd (omega arith)
-further true true false d next e = absurd (omega arith)
-further true false c d next e = absurd (omega arith)
-further false b c d next e = absurd (omega arith)
+further true true true false next e = absurd (ok_not (sym e))
+further true true false d next e = absurd (ok_not (sym e))
+further true false c d next e = absurd (ok_not (sym e))
+further false b c d next e = absurd (ok_not (sym e))
 
--- the number of the fields, and of the room where the fields have none
 module _ (n : ℕ) (x : Row) (c : Command) (p : Place) (entries inputs : ℕ) (kinds : List ℕ) (h : p.handles ≤ length kinds) where
-  -- the fields' is told from the kinds of the filled handles
-  abbrev told_fields : ℕ
-  told_fields = fields n x c (holding (take p.handles kinds)) (take p.handles kinds)
+  -- the fields' checks, from the kinds of the filled handles
+  abbrev field_checks : Checked
+  field_checks = fields n x c (holding (take p.handles kinds)) (take p.handles kinds)
 
-  pub fields_refused : (r : Refusal) → number r ≡ told_fields → number r ≡ refusal n x c p entries inputs kinds
-  fields_refused r e =
-      ended (unused_zero x c) (handles_filled x p c) (kinds_fit x kinds c) (in_word n x c) (room_left x p entries inputs) (e ∙ fields-taken n c p kinds x h) (numbered r)
+  pub fields_refused : {r : Refusal} → Err r ≡ field_checks → Err r ≡ refusal n x c p entries inputs kinds
+  fields_refused e =
+      ended (unused_zero x c) (handles_filled x p c) (kinds_fit x kinds c) (in_word n x c) (room_left x p entries inputs) (e ∙ fields-taken n c p kinds x h)
 
-  pub fields_passed : {q : ℕ} → 0 ≡ told_fields → q ≡ room_left x p entries inputs → q ≡ refusal n x c p entries inputs kinds
+  pub fields_passed : {q : Checked} → passed ≡ field_checks → q ≡ room_left x p entries inputs → q ≡ refusal n x c p entries inputs kinds
   fields_passed e f =
       f ∙ further (unused_zero x c) (handles_filled x p c) (kinds_fit x kinds c) (in_word n x c) (room_left x p entries inputs) (e ∙ fields-taken n c p kinds x h)
 
--- ---- the verdict, by the number
-
--- a number other than 0 refuses
-told-refused : (r : ℕ) (next : Verdict) → 1 ≤ r → told r next ≡ Refused r
-told-refused zero next h = absurd (omega arith)
-told-refused (suc r) next h = refl
-
--- r is the number from 6 to 11
-module _ (n : ℕ) (x : Row) (c : Command) (p : Place) (z : Sizes) (kinds : List ℕ) (next : Verdict) {r : ℕ} (e : r ≡ refusal n x c p z.one z.inputs kinds) where
-  -- the verdict is told by it
-  judged-told : judged n x c p z kinds next ≡ told r (supplied x p z next)
-  unfolding judged
-  judged-told = ap (λ (q : ℕ). told q (supplied x p z next)) (sym e)
-
-  -- it refuses
-  pub judged-refused : 1 ≤ r → judged n x c p z kinds next ≡ Refused r
-  judged-refused h = judged-told ∙ told-refused r (supplied x p z next) h
-
--- where it is 0 the tests 12 and 13 are left
-pub judged_passed : (n : ℕ) (x : Row) (c : Command) (p : Place) (z : Sizes) (kinds : List ℕ) (next : Verdict) → 0 ≡ refusal n x c p z.one z.inputs kinds
-    → judged n x c p z kinds next ≡ supplied x p z next
-judged_passed n x c p z kinds next = judged-told n x c p z kinds next
+-- the verdict, by what the checks 6 to 11 come to
+pub judged_by : (n : ℕ) (x : Row) (c : Command) (p : Place) (z : Sizes) (kinds : List ℕ) (next : Verdict) {r : Checked}
+    → r ≡ refusal n x c p z.one z.inputs kinds → judged n x c p z kinds next ≡ after_checks r (supplied x p z next)
+unfolding judged
+judged_by n x c p z kinds next e = ap (λ (q : Checked). after_checks q (supplied x p z next)) (sym e)
 
 -- ---- where number 4 does not apply
 
@@ -130,7 +96,7 @@ module _ (p : Place) (l : Lent) (s : sound p (sizes l) l.kinds ≡ true) where
 
 -- where no number from 6 to 11 applies either, what the command reads is there, and what it does fits the lists
 pub begun : (x : Code) (c : Command) (p : Place) (l : Lent) → sound p (sizes l) l.kinds ≡ true
-    → 0 ≡ refusal 5 (row 5 x) c p (sizes l).one (sizes l).inputs l.kinds → Begun x c p l
+    → passed ≡ refusal 5 (row 5 x) c p (sizes l).one (sizes l).inputs l.kinds → Begun x c p l
 begun x c p l s e =
     let w = places_within p (sizes l) l.kinds s in
     let t = refusal_passed 5 (row 5 x) c p (sizes l).one (sizes l).inputs l.kinds (sym e) in

@@ -1,26 +1,16 @@
 -- Lists that are read in threes.
-use Prim.Native.Nat.{ℕ, zero, suc, ◌+◌, ◌*◌, ◌/◌, ◌≤◌, ◌<◌}
+use Prim.Native.Nat.{ℕ, zero, suc, ◌*◌, ◌/◌, ◌≤◌}
 use mathlib.Core.Path.{◌≡◌, refl, ap}
 use mathlib.Core.List.{List, [], ◌∷◌, map}
 use native.Mathlib.Omega.{arith}
-use lib.ListN.{length, get_or, take, drop, length-drop}
+use lib.ListN.{length, get_or, take}
 use Rattle.std.specs.Simd.{first_chunks}
 use Rattle.machine.specs.declared.code.Command.{Command}
 use Rattle.machine.specs.Table.{command}
 use Rattle.protocols.specs.Shares.{shares, sum_of}
 use Rattle.machine.specs.Run.{commands_of, sums_in_threes}
 
-pub drop_short : (l : List ℕ) (j : ℕ) → length l ≤ j + 2 → length (drop j l) < 3
-drop_short l j h = omega (arith, length-drop j l)
-
 -- ---- commands
-
-pub commands_none : (l : List ℕ) → length l < 3 → commands_of l ≡ []
-unfolding commands_of
-commands_none [] h = refl
-commands_none (x ∷ []) h = refl
-commands_none (x ∷ y ∷ []) h = refl
-commands_none (x ∷ y ∷ z ∷ l) h = let w : ⊥ = omega arith in absurd w
 
 -- a command's three words
 abbrev pub of_words : List ℕ → Command
@@ -67,6 +57,3 @@ sums_cut m [] = refl
 sums_cut m (x ∷ []) = refl
 sums_cut m (x ∷ y ∷ []) = refl
 sums_cut m (x ∷ y ∷ z ∷ l) = rw (three_more (length l)) (ap (λ (ws : List ℕ). sum_of m (shares x y z) ∷ ws) (sums_cut m l))
-
-pub commands_end : (cs : List ℕ) (i : ℕ) → length cs ≤ i + 2 → commands_of (drop i cs) ≡ []
-commands_end cs i h = commands_none (drop i cs) (drop_short cs i h)

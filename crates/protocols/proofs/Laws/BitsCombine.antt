@@ -6,13 +6,13 @@ use Rattle.protocols.specs.declared.place.Party.TheVariants.{One}
 use Rattle.protocols.specs.declared.shares.Shares.{Shares}
 use Rattle.protocols.specs.declared.bits.Held.{Held}
 use Rattle.protocols.specs.declared.equal.Folding.{Folding}
-use Rattle.protocols.specs.Word.{width, modulus, add, sub, bit_at, up, choose}
+use Rattle.protocols.specs.Word.{width, modulus, add, sub, bit_at, up}
 use Rattle.protocols.specs.Shares.{one, shares, Operands, sum_of, xor_of}
 use Rattle.protocols.specs.Place.{Tapes, word, counts, cut}
 use Rattle.protocols.specs.Protocol.{◌then◌}
 use Rattle.protocols.specs.Local.{difference}
 use Rattle.protocols.specs.Masked.{masked}
-use Rattle.protocols.specs.Bit.{bits_at, b, m₁₂, b₁₂, s₂₃, s₃₂, bit}
+use Rattle.protocols.specs.Bit.{bits_at, b, m₁₂, b₁₂, s₂₃, s₃₂, chosen, bit}
 use Rattle.protocols.specs.Bits.{round_s, round_p, v₂, v₃, deal, exchange, round, rounds, bits}
 use Rattle.protocols.specs.Equal.{compared, compare, begin, fold_share, fold, folds, equal}
 use Rattle.protocols.specs.Below.{below}
@@ -98,9 +98,9 @@ module _ (n : ℕ) where
   -- ---- Bit
 
   -- the bit a in shares c and a - c, kept or negated by the bit s
-  converted-sum : (a s c : ℕ) → a < 2 → s < 2 → sum_of m (shares 0 (choose s c (sub m 1 c)) (choose s (sub m a c) (sub m 0 (sub m a c)))) ≡ bit_xor a s
-  converted-sum a s c ha hs =
-      by_bit (λ s. sum_of m (shares 0 (choose s c (sub m 1 c)) (choose s (sub m a c) (sub m 0 (sub m a c)))) ≡ bit_xor a s)
+  chosen-sum : (a s c : ℕ) → a < 2 → s < 2 → sum_of m (chosen m s c (sub m a c)) ≡ bit_xor a s
+  chosen-sum a s c ha hs =
+      by_bit (λ s. sum_of m (chosen m s c (sub m a c)) ≡ bit_xor a s)
       (kept ∙ sym (xor_zero_r a)) (negated ∙ by_bit (λ a. 1 - a ≡ bit_xor a 1) refl refl a ha) s hs
     where
       kept : sum_of m (shares 0 c (sub m a c)) ≡ a
@@ -116,7 +116,7 @@ module _ (n : ℕ) where
   bit-sum : (j : ℕ) (u : Shares) (t : Tapes) → sum_of m ((bit m j).result u t) ≡ bit_at (xor_of u) j
   unfolding bit xor_of
   bit-sum j u t =
-      converted-sum (bit_xor (b t) (bit_at u.one j)) (bit_xor (s₂₃ v t) (s₃₂ v t)) (m₁₂ t)
+      chosen-sum (bit_xor (b t) (bit_at u.one j)) (bit_xor (s₂₃ v t) (s₃₂ v t)) (m₁₂ t)
       (bits-lt (b t) (bit_at u.one j) (low-lt (word t one 0)) (bit-lt u.one j))
       (bits-lt (s₂₃ v t) (s₃₂ v t) (s₂₃-lt j u t) (s₃₂-lt j u t))
       ∙ xor-two_masks (b t) (b₁₂ t) (bit_at u.one j) (bit_at u.two j) (bit_at u.three j)
@@ -261,8 +261,8 @@ module _ (n : ℕ) where
       bit-sum (width n - 1) ((bits n).result d t') _
       ∙ ap (λ (y : ℕ). bit_at y (width n - 1)) (bits-xor d t' c' ∙ (ring_combines m pos).difference_combines x)
 
-  pub bits-combine : BitsCombine n
-  bits-combine = record {
+  pub bits_combine : BitsCombine n
+  bits_combine = record {
     bit_combines = bit-sum;
     bits_combines = bits-xor;
     equal_combines = equal-sum;

@@ -93,12 +93,6 @@ bit-and x y j =
 
 -- ---- the algebra of one digit
 
-pub differ_comm : (x y : ℕ) → differ x y ≡ differ y x
-differ_comm zero zero = refl
-differ_comm zero (suc y) = refl
-differ_comm (suc x) zero = refl
-differ_comm (suc x) (suc y) = differ_comm x y
-
 pub differ_assoc : (x y z : ℕ) → x < 2 → y < 2 → z < 2 → differ (differ x y) z ≡ differ x (differ y z)
 differ_assoc x y z hx hy hz =
     by_bit (λ a. differ (differ a y) z ≡ differ a (differ y z)) refl
@@ -198,8 +192,3 @@ unfolding bit_at
 bit_ones w j l =
     ap (λ (x : ℕ). (2 ^ x - 1) / 2 ^ j % 2) (omega arith) ∙ ap (λ (x : ℕ). x / 2 ^ j % 2) (ones_split (w - suc j + 1) j)
     ∙ ap (λ (x : ℕ). x % 2) (high (2 ^ (w - suc j + 1) - 1) j (ones_lt j) ∙ ones_split (w - suc j) 1) ∙ low (2 ^ (w - suc j) - 1) 1 (ones_lt 1)
-
--- a bit that is not clear chooses the second
-pub choose-set : (b x y : ℕ) → (b ≡ 0 → ⊥) → choose b x y ≡ y
-choose-set zero x y h = absurd (h refl)
-choose-set (suc b) x y h = refl

@@ -8,9 +8,9 @@ use Rattle.protocols.specs.declared.place.Place.{Place}
 use Rattle.protocols.specs.declared.place.Received.{Received}
 use Rattle.protocols.specs.declared.shares.Shares.{Shares}
 use Rattle.protocols.specs.Shares.{one, two, three}
-use Rattle.protocols.specs.Place.{Tapes, Lists, lists, Receiver, miner, controller, list, advance, enough, block, silence, ◌followed_by◌}
+use Rattle.protocols.specs.Place.{Tapes, Lists, lists, Receiver, miner, controller, list, advance, tape_spent, enough, block, silence, ◌followed_by◌}
 use Rattle.protocols.specs.Protocol.{Protocol, done, perform}
-use Rattle.protocols.specs.Outcome.{Outcome, Delivered, finished, refused, delivered, delivery, room, fronts, puts}
+use Rattle.protocols.specs.Outcome.{Outcome, Delivered, list_full, finished, refused, delivered, delivery, room, fronts, puts}
 use Rattle.protocols.specs.Counts.{received, due}
 use Rattle.protocols.specs.Lent.{Room}
 use Rattle.protocols.specs.Claims.{Delivers}
@@ -59,22 +59,22 @@ fronts_puts l w v k h = λ i.
 -- ---- by the tapes and the room
 
 module _ {S : Type 0} (f : Protocol S Shares) (s : S) (p : Place) (t : Tapes) (l : Lists) where
-  pub delivery-spent : enough f.draws p t ≡ false → delivered (refused 12 p) l ≡ delivery p (perform f s p t) l
+  pub delivery-spent : enough f.draws p t ≡ false → delivered (refused tape_spent p) l ≡ delivery p (perform f s p t) l
   unfolding perform
   delivery-spent e = rw e
 
-  pub delivery_full : enough f.draws p t ≡ true → room l (f.received s (block f.draws p t)) ≡ false → delivered (refused 13 p) l ≡ delivery p (perform f s p t) l
+  pub delivery_full : enough f.draws p t ≡ true → room l (f.received s (block f.draws p t)) ≡ false → delivered (refused list_full p) l ≡ delivery p (perform f s p t) l
   unfolding perform
   delivery_full e g = rw (e, g)
 
 -- the same by counts: n words drawn, k delivered
 module _ {S : Type 0} (f : Protocol S Shares) (n : Drawn) (drawn : f.draws ≡ n) (s : S) (p : Place) (t : Tapes) (l : Lists) where
-  pub words_lack : enough n p t ≡ false → delivered (refused 12 p) l ≡ delivery p (perform f s p t) l
+  pub words_lack : enough n p t ≡ false → delivered (refused tape_spent p) l ≡ delivery p (perform f s p t) l
   words_lack e = delivery-spent f s p t l (rw drawn e)
 
   pub room_lacks : (k : Received) → ((s : S) (b : Tapes) (r : Receiver) → length (list r (f.received s b)) ≡ due r k) → enough n p t ≡ true
       → leb k.controller (length l.controller) && (leb k.one (length l.one) && (leb k.two (length l.two) && leb k.three (length l.three))) ≡ false
-      → delivered (refused 13 p) l ≡ delivery p (perform f s p t) l
+      → delivered (refused list_full p) l ≡ delivery p (perform f s p t) l
   room_lacks k long e g =
       let b = block f.draws p t in
       delivery_full f s p t l (rw drawn e) (rw (long s b controller, long s b (miner one), long s b (miner two), long s b (miner three)) g)
@@ -96,6 +96,7 @@ delivers p l s w q = record {
   full_if = λ r h. rw (room_false l w r h);
   done_if = λ h. rw (room_true l w h);
   begins = λ h r. begins r (h r);
+  spent_if = refl;
 }
   where
     begins : (r : Receiver) → length (list r w) ≤ length (list r l) → list r (fronts l w) ≡ list r w ++ drop (length (list r w)) (list r l)
@@ -164,8 +165,8 @@ module _ {S : Type 0} (f : Protocol S Shares) (s : S) (p : Place) (t : Tapes) (a
       by_room e true g =
           let is : delivered o (lists x y z []) ≡ delivered (finished (f.result s (block f.draws p t)) (advance p f.draws)) (fronts (lists a b c []) v) = h ∙ rw (e, none, g) in
           ap keep is ∙ sym (rw (e, none, leb-zero, g))
-      by_room e false g = let is : delivered o (lists x y z []) ≡ delivered (refused 13 p) (lists a b c []) = h ∙ rw (e, none, g) in ap keep is ∙ sym (rw (e, none, leb-zero, g))
+      by_room e false g = let is : delivered o (lists x y z []) ≡ delivered (refused list_full p) (lists a b c []) = h ∙ rw (e, none, g) in ap keep is ∙ sym (rw (e, none, leb-zero, g))
 
       by_tapes : (i : Bool) → enough f.draws p t ≡ i → delivered o (lists x y z d) ≡ delivery p (perform f s p t) (lists a b c d)
       by_tapes true e = by_room e others refl
-      by_tapes false e = let is : delivered o (lists x y z []) ≡ delivered (refused 12 p) (lists a b c []) = h ∙ rw e in ap keep is ∙ sym (rw e)
+      by_tapes false e = let is : delivered o (lists x y z []) ≡ delivered (refused tape_spent p) (lists a b c []) = h ∙ rw e in ap keep is ∙ sym (rw e)

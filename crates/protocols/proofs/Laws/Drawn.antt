@@ -1,5 +1,6 @@
 -- Protocols on the words that they draw, all at once.
-use Rattle.std.specs.Prelude.{Option, Some, None}
+use Rattle.std.specs.Prelude.{Option, Some, None, unwrap_or}
+use Rattle.std.specs.Borrow.{Bor}
 use Rattle.std.proofs.Common.{◌≡◌, ℕ, ◌+◌, ◌*◌, ◌<◌, ◌≤◌, Bool, true, false, cond, List, [], ◌∷◌, ◌++◌, length, get_or, take, drop, take_all, sym, refl, ap, ◌∙◌, arith, length-drop, drop_of_length-le, get_or-drop, add-zero}
 use lib.Seq.{length-sets}
 use Rattle.protocols.specs.declared.place.Party.TheVariants.{Provider, One, Two, Three}
@@ -11,10 +12,10 @@ use Rattle.protocols.specs.declared.place.Received.{Received}
 use Rattle.protocols.specs.declared.shares.Shares.{Shares}
 use Rattle.protocols.specs.Word.{width, modulus}
 use Rattle.protocols.specs.Shares.{one, two, three, Operands}
-use Rattle.protocols.specs.Place.{Tapes, tapes, Lists, lists, Receiver, miner, controller, list, word, advance, counts, draw, draw_case, tape_number, enough, block, cut, rest, ◌followed_by◌, to_next, to_two_three}
+use Rattle.protocols.specs.Place.{Tapes, tapes, Lists, lists, Receiver, miner, controller, list, word, advance, counts, tape_spent, Draw, draw_of, spent_draw, draw_answer, draw, enough, block, cut, rest, ◌followed_by◌, to_next, to_two_three}
 use Rattle.protocols.specs.Counts.{received, plus_received, due}
 use Rattle.protocols.specs.Draws.{draw_each, draw_pairs, draw_block}
-use Rattle.protocols.specs.Lent.{Block, words_at}
+use Rattle.protocols.specs.Lent.{Block, words_at, drawn_block}
 use Rattle.protocols.specs.Protocol.{Protocol, ◌then◌, Answer, done, spent, perform}
 use Rattle.protocols.specs.Outcome.{finished, refused, delivered, delivery, fronts, puts}
 use Rattle.protocols.specs.Masked.{masked}
@@ -34,53 +35,45 @@ use Rattle.protocols.proofs.Laws.Lent.{of_one, sent_before, folded_before, round
 -- ---- a block is drawn, or a tape is spent
 
 module _ (n : Drawn) (p : Place) (t : Tapes) where
-  by_enough : {w : Tapes} {q : Place} (e : Bool) → draw_case (tape_number e) (block n p t) (advance p n) ≡ Some (w, q) → (e ≡ true) × (w ≡ block n p t) × (q ≡ advance p n)
-  by_enough {w} {q} true z = (refl, sym (ap block_of z), sym (ap place_of z))
-    where
-      block_of : Option (Tapes × Place) → Tapes
-      block_of (Some (v, r)) = v
-      block_of None = w
+  by_enough : {w : Tapes} {q : Place} (e : Bool) → cond e (draw_of (block n p t) (advance p n)) (spent_draw p) ≡ draw_of w q
+      → (e ≡ true) × (w ≡ block n p t) × (q ≡ advance p n)
+  by_enough {w} true z = (refl, sym (ap (λ (d : Draw Tapes). unwrap_or d.words w) z), sym (ap (λ (d : Draw Tapes). d.place) z))
+  by_enough false z = absurd (omega (arith, ap (λ (d : Draw Tapes). d.number) z))
 
-      place_of : Option (Tapes × Place) → Place
-      place_of (Some (v, r)) = r
-      place_of None = q
-  by_enough false z = absurd (omega (arith, ap number z))
-    where
-      number : Option (Tapes × Place) → ℕ
-      number (Some x) = 0
-      number None = 1
-
-  pub block_drawn : {w : Tapes} {q : Place} → draw_block n p t ≡ Some (w, q) → (enough n p t ≡ true) × (w ≡ block n p t) × (q ≡ advance p n)
-  unfolding draw_block
-  block_drawn z = by_enough (enough n p t) z
-
-  spent_by : (e : Bool) → draw_case {T = Tapes} (tape_number e) (block n p t) (advance p n) ≡ None → e ≡ false
+  spent_by : (e : Bool) → cond {A = Draw Tapes} e (draw_of (block n p t) (advance p n)) (spent_draw p) ≡ spent_draw p → e ≡ false
   spent_by false z = refl
-  spent_by true z = absurd (omega (arith, ap number z))
-    where
-      number : Option (Tapes × Place) → ℕ
-      number (Some x) = 0
-      number None = 1
+  spent_by true z = absurd (omega (arith, ap (λ (d : Draw Tapes). d.number) z))
 
-  pub block_spent : draw_block n p t ≡ None → enough n p t ≡ false
-  unfolding draw_block
-  block_spent z = spent_by (enough n p t) z
+  -- by the code's answer r
+  module _ {r : Option ((Bor (List ℕ) × Bor (List ℕ) × Bor (List ℕ)) × Place)} where
+    pub block_drawn : {a b c : Bor (List ℕ)} {q : Place} → r ≡ Some ((a, b, c), q) → draw_answer p (drawn_block r) ≡ draw_block n p t
+        → (enough n p t ≡ true) × (tapes [] a.now b.now c.now ≡ block n p t) × (q ≡ advance p n)
+    unfolding draw_block
+    block_drawn z e = by_enough (enough n p t) (sym e ∙ rw z)
+
+    pub block_spent : r ≡ None → draw_answer p (drawn_block r) ≡ draw_block n p t → enough n p t ≡ false
+    unfolding draw_block
+    block_spent z e = spent_by (enough n p t) (sym e ∙ rw z)
 
 -- what a protocol delivers of a drawn block
 module _ {S : Type 0} (f : Protocol S Shares) (n : Drawn) (draws : f.draws ≡ n) (s : S) (p : Place) (t : Tapes) where
-  pub spent_delivers : draw_block n p t ≡ None → (l : Lists) → delivered (refused 12 p) l ≡ delivery p (perform f s p t) l
-  spent_delivers z l = words_lack f n draws s p t l (block_spent n p t z)
+  module _ {r : Option ((Bor (List ℕ) × Bor (List ℕ) × Bor (List ℕ)) × Place)} where
+    pub spent_delivers : r ≡ None → draw_answer p (drawn_block r) ≡ draw_block n p t → (l : Lists)
+        → delivered (refused tape_spent p) l ≡ delivery p (perform f s p t) l
+    spent_delivers z e l = words_lack f n draws s p t l (block_spent n p t z e)
 
-  pub delivery_drawn : {w : Tapes} {q : Place} → draw_block n p t ≡ Some (w, q) → (k : Received) → ((s : S) (b : Tapes) (r : Receiver) → length (list r (f.received s b)) ≡ due r k)
-      → {l₀ l : Lists} {x : Shares} → ((r : Receiver) → due r k ≤ length (list r l₀)) → (x ≡ f.result s w) × (l ≡ fronts l₀ (f.received s w))
-      → delivered (finished x q) l ≡ delivery p (perform f s p t) l₀
-  delivery_drawn {w} {q} z k long {l₀} {l} {x} room h =
-      let d = block_drawn n p t z in
-      let v : block f.draws p t ≡ w = ap (λ (m : Drawn). block m p t) draws ∙ sym d.1 in
-      let g : advance p f.draws ≡ q = ap (advance p) draws ∙ sym d.2 in
-      let is : perform f s p t ≡ done x (f.received s w) q = performs f s p t (rw draws d.0) ∙ cc (v, g, h.0) in
-      let made : Performed f s p t l₀ x l k q = record { words = f.received s w; is = is; are = h.1; long = long s w } in
-      delivery-done f s p t made room
+    pub delivery_drawn : {a b c : Bor (List ℕ)} {q : Place} {l₀ l : Lists} {x : Shares} → r ≡ Some ((a, b, c), q) → draw_answer p (drawn_block r) ≡ draw_block n p t
+        → (k : Received) → ((s : S) (b : Tapes) (r : Receiver) → length (list r (f.received s b)) ≡ due r k) → ((r : Receiver) → due r k ≤ length (list r l₀))
+        → (x ≡ f.result s (tapes [] a.now b.now c.now)) × (l ≡ fronts l₀ (f.received s (tapes [] a.now b.now c.now)))
+        → delivered (finished x q) l ≡ delivery p (perform f s p t) l₀
+    delivery_drawn {a} {b} {c} {q} {l₀} {l} {x} z e k long room h =
+        let w = tapes [] a.now b.now c.now in
+        let d = block_drawn n p t z e in
+        let v : block f.draws p t ≡ w = ap (λ (m : Drawn). block m p t) draws ∙ sym d.1 in
+        let g : advance p f.draws ≡ q = ap (advance p) draws ∙ sym d.2 in
+        let is : perform f s p t ≡ done x (f.received s w) q = performs f s p t (rw draws d.0) ∙ cc (v, g, h.0) in
+        let made : Performed f s p t l₀ x l k q = record { words = f.received s w; is = is; are = h.1; long = long s w } in
+        delivery-done f s p t made room
 
 -- ---- on a block of words: tapes of these words alone, from their start
 
@@ -99,10 +92,10 @@ first_one [] h = absurd (omega (arith, h))
 first_one (x ∷ l) h = refl
 
 module _ (w : Tapes) where
-  pub block-one : 1 ≤ length w.one → draw 1 One w.one (within 0 0) ≡ Some (word w one 0 ∷ [], within 1 0)
+  pub block-one : 1 ≤ length w.one → draw 1 One w.one (within 0 0) ≡ draw_of (word w one 0 ∷ []) (within 1 0)
   block-one h = draw_some 1 One w.one (within 0 0) h ∙ rw (first_one w.one h)
 
-  pub block-three : 3 ≤ length w.one → draw 3 One w.one (within 0 0) ≡ Some (word w one 0 ∷ word w one 1 ∷ word w one 2 ∷ [], within 3 0)
+  pub block-three : 3 ≤ length w.one → draw 3 One w.one (within 0 0) ≡ draw_of (word w one 0 ∷ word w one 1 ∷ word w one 2 ∷ []) (within 3 0)
   block-three h = draw_some 3 One w.one (within 0 0) h ∙ rw (first_three w.one h)
 
   module _ (j k : ℕ) where
@@ -110,13 +103,13 @@ module _ (w : Tapes) where
     enough_here n a b c = enough_true (counts 0 n n n) (within j k) w (elim [ Provider ↦ omega arith | One ↦ omega (arith, a) | Two ↦ omega (arith, b) | Three ↦ omega (arith, c) ])
 
     pub block-each : j + 1 ≤ length w.one → k + 1 ≤ length w.two → k + 1 ≤ length w.three
-        → draw_each (within j k) w ≡ Some (words_at w j k, within (j + 1) (k + 1))
+        → draw_each (within j k) w ≡ draw_of (words_at w j k) (within (j + 1) (k + 1))
     unfolding draw_each block
     block-each a b c = rw (enough_here 1 a b c)
         (cc (block-first 1 j w.one (omega arith), block-first 1 k w.two (omega arith), block-first 1 k w.three (omega arith)))
 
     pub block-pairs : j + 2 ≤ length w.one → k + 2 ≤ length w.two → k + 2 ≤ length w.three
-        → draw_pairs (within j k) w ≡ Some ((words_at w j k, words_at w (j + 1) (k + 1)), within (j + 2) (k + 2))
+        → draw_pairs (within j k) w ≡ draw_of {T = Shares × Shares} (words_at w j k, words_at w (j + 1) (k + 1)) (within (j + 2) (k + 2))
     unfolding draw_pairs block
     block-pairs a b c = rw (enough_here 2 a b c)
         (cc (

@@ -1,6 +1,6 @@
 -- Draws: one tape after the other is the same as a block, and a block after a block is one block.
-use Rattle.std.specs.Prelude.{Option, Some, None}
-use Rattle.std.proofs.Common.{◌≡◌, ℕ, zero, suc, ◌+◌, ◌-◌, ◌<◌, ◌≤◌, Bool, true, false, ◌&&◌, leb, List, [], ◌++◌, length, get_or, take, drop, refl, sym, ap, ◌∙◌, append-nil, add-zero, add_assoc, arith, length-drop, drop_of_length-le, length-take-le, get_or-drop, take_all, get_or-take, take-take, drop-drop, take-add, drop_at, le-leb, leb-false, leb-true}
+use Rattle.std.specs.Prelude.{Some, None}
+use Rattle.std.proofs.Common.{◌≡◌, ℕ, zero, suc, ◌+◌, ◌-◌, ◌<◌, ◌≤◌, Bool, true, false, cond, ◌&&◌, leb, List, [], ◌++◌, length, get_or, take, drop, refl, sym, ap, ◌∙◌, append-nil, add-zero, add_assoc, arith, length-drop, drop_of_length-le, length-take-le, get_or-drop, take_all, get_or-take, take-take, drop-drop, take-add, drop_at, le-leb, leb-false, leb-true}
 use borrow.Author.Tests.{lt-leb}
 use native.Mathlib.Decide.{dec_le}
 use lib.Seq.{take-nil}
@@ -11,8 +11,9 @@ use Rattle.protocols.specs.declared.place.Drawn.{Drawn}
 use Rattle.protocols.specs.declared.place.Place.{Place}
 use Rattle.protocols.specs.declared.shares.Shares.{Shares}
 use Rattle.protocols.proofs.Laws.Blocks.{tapes_ext}
-use Rattle.protocols.specs.Draws.{draw_each, draw_pairs, draw_block}
-use Rattle.protocols.specs.Place.{Tapes, tapes, tape, words, counts, count, with_count, plus, cut, rest, advance, moved, tape_number, draw, draw_case, every, has, enough, block}
+use Rattle.protocols.specs.Claims.{DrawIs}
+use Rattle.protocols.specs.Draws.{draw_part, draw_each, draw_pairs, draw_block}
+use Rattle.protocols.specs.Place.{Tapes, tapes, tape, words, counts, count, with_count, plus, cut, rest, advance, moved, Draw, draw_of, spent_draw, draw, every, has, enough, block}
 
 -- ---- tests of every party
 
@@ -164,48 +165,40 @@ block-word n d k l h = get_or-take n (drop d l) k 0 h ∙ get_or-drop d l k 0
 pub block-first : (n d : ℕ) (l : List ℕ) → 0 < n → get_or (take n (drop d l)) 0 0 ≡ get_or l d 0
 block-first n d l h = block-word n d 0 l h ∙ ap (λ (k : ℕ). get_or l k 0) (add-zero d)
 
+-- word k of a party's part of a block is the word of its tape that is k words behind the place
+pub block_words : (n : Drawn) (p : Place) (t : Tapes) (i : Party) (k : ℕ) → k < count i n
+    → get_or (tape i (block n p t)) k 0 ≡ get_or (tape i t) (count i p.drawn + k) 0
+unfolding block
+block_words n p t Provider k h = block-word n.provider p.drawn.provider k t.provider h
+block_words n p t One k h = block-word n.one p.drawn.one k t.one h
+block_words n p t Two k h = block-word n.two p.drawn.two k t.two h
+block_words n p t Three k h = block-word n.three p.drawn.three k t.three h
+
 -- ---- words drawn of one tape after the other make up a block
 
 -- what follows a draw
-abbrev pub after : {T A : Type 0} → Option (T × Place) → (T → Place → A) → A → A
-after (Some (x, q)) k z = k x q
-after None k z = z
+abbrev pub after : {T A : Type 0} → Draw T → (T → Place → A) → A → A
+after d k z = elim d.words [ Some x ↦ k x d.place | None ↦ z ]
 
 -- a draw by what is left of the tape
 module _ (k : ℕ) (i : Party) (l : List ℕ) (p : Place) where
-  pub draw_none : length (drop (count i p.drawn) l) < k → draw k i l p ≡ None
+  pub draw_none : length (drop (count i p.drawn) l) < k → draw k i l p ≡ spent_draw p
   unfolding draw
   draw_none h = rw (lt-leb k (length l - count i p.drawn) (omega (arith, h, length-drop (count i p.drawn) l)))
 
-  pub draw_some : k ≤ length (drop (count i p.drawn) l) → draw k i l p ≡ Some (take k (drop (count i p.drawn) l), moved k i p)
+  pub draw_some : k ≤ length (drop (count i p.drawn) l) → draw k i l p ≡ draw_of (take k (drop (count i p.drawn) l)) (moved k i p)
   unfolding draw
   draw_some h = rw (le-leb k (length l - count i p.drawn) (omega (arith, h, length-drop (count i p.drawn) l)))
 
-  -- a draw after a draw is the draw of the words of both
-  pub draw-plus : (j : ℕ) → draw (j + k) i l p ≡ after (draw j i l p) (λ v q. after (draw k i l q) (λ w r. Some (v ++ w, r)) None) None
-  unfolding draw
-  draw-plus j = go (leb j (length l - count i p.drawn)) refl (leb k (length l - (count i p.drawn + j))) refl
-    where
-      moved_count : (m : Party) → count m (moved j m p).drawn ≡ count m p.drawn + j
-      moved_count Provider = refl
-      moved_count One = refl
-      moved_count Two = refl
-      moved_count Three = refl
-
-      moved_twice : (m : Party) → moved k m (moved j m p) ≡ moved (j + k) m p
-      moved_twice Provider = cc (add_assoc p.drawn.provider j k)
-      moved_twice One = cc (add_assoc p.drawn.one j k)
-      moved_twice Two = cc (add_assoc p.drawn.two j k)
-      moved_twice Three = cc (add_assoc p.drawn.three j k)
-
-      both : take (j + k) (drop (count i p.drawn) l) ≡ take j (drop (count i p.drawn) l) ++ take k (drop (count i p.drawn + j) l)
-      both = take-add j k (drop (count i p.drawn) l) ∙ ap (λ (w : List ℕ). take j (drop (count i p.drawn) l) ++ take k w) (drop-drop j (count i p.drawn) l)
-
-      go : (a : Bool) → leb j (length l - count i p.drawn) ≡ a → (b : Bool) → leb k (length l - (count i p.drawn + j)) ≡ b
-          → draw (j + k) i l p ≡ after (draw j i l p) (λ v q. after (draw k i l q) (λ w r. Some (v ++ w, r)) None) None
-      go false e b f = rw (nat_le-plus j k (length l) (count i p.drawn), e)
-      go true e false f = rw (nat_le-plus j k (length l) (count i p.drawn), e, moved_count i, f)
-      go true e true f = rw (nat_le-plus j k (length l) (count i p.drawn), e, ← moved_twice i, moved_count i, f, both)
+-- a draw by its number and values
+pub draw_is : (k : ℕ) (i : Party) (l : List ℕ) (p : Place) → DrawIs k i l p
+unfolding draw
+draw_is k i l p = record {
+  drawn_if = λ h. rw (le-leb k (length l - count i p.drawn) h);
+  spent_if = λ h. rw (lt-leb k (length l - count i p.drawn) h);
+  words_answered = λ w q. refl;
+  spent_answered = refl;
+}
 
 -- words of one tape alone
 abbrev pub only : Party → ℕ → Drawn
@@ -259,11 +252,11 @@ module _ (p : Place) (t : Tapes) where
 
   -- a block of words of each miner's tape, one tape after the other
   module _ (a b c : ℕ) where
-    abbrev pub tapes_in_turn : Option (Tapes × Place)
+    abbrev pub tapes_in_turn : Draw Tapes
     tapes_in_turn =
         after (draw a One t.one p)
-        (λ x p₁. after (draw b Two t.two p₁) (λ y p₂. after (draw c Three t.three p₂) (λ z p₃. Some (tapes [] x y z, p₃)) None) None)
-        None
+        (λ x p₁. after (draw b Two t.two p₁) (λ y p₂. after (draw c Three t.three p₂) (λ z p₃. draw_of (tapes [] x y z) p₃) (spent_draw p)) (spent_draw p))
+        (spent_draw p)
 
     pub block_in_turn : draw_block (counts 0 a b c) p t ≡ tapes_in_turn
     unfolding draw_block draw block
@@ -277,20 +270,20 @@ module _ (p : Place) (t : Tapes) where
         go true e true f true g = rw (enough_miners a b c p t, e, f, g) (cc (add-zero p.drawn.provider))
 
   -- what is taken of a block, where it is drawn
-  of_block : {T : Type 0} (n : Drawn) (taken : Tapes → T)
-      → draw_case (tape_number (enough n p t)) (taken (block n p t)) (advance p n) ≡ after {T = Tapes} (draw_block n p t) (λ w q. Some (taken w, q)) None
+  of_block : {T : Type 0} (n : Drawn) (part : Tapes → T) → draw_part n part p t ≡ after (draw_block n p t) (λ w q. draw_of (part w) q) (spent_draw p)
   unfolding draw_block
-  of_block {T} n taken = go (enough n p t)
+  of_block {T} n part = go (enough n p t)
     where
-      go : (e : Bool) → draw_case {T = T} (tape_number e) (taken (block n p t)) (advance p n) ≡ after {T = Tapes} (draw_case (tape_number e) (block n p t) (advance p n)) (λ w q. Some (taken w, q)) None
+      go : (e : Bool) → cond {A = Draw T} e (draw_of (part (block n p t)) (advance p n)) (spent_draw p)
+          ≡ after {T = Tapes} (cond e (draw_of (block n p t) (advance p n)) (spent_draw p)) (λ w q. draw_of (part w) q) (spent_draw p)
       go true = refl
       go false = refl
 
   -- a word of each miner, and two, are of a block of them
-  pub each_of_block : draw_each p t ≡ after {T = Tapes} (draw_block (counts 0 1 1 1) p t) (λ w q. Some (words w 0, q)) None
+  pub each_of_block : draw_each p t ≡ after (draw_block (counts 0 1 1 1) p t) (λ w q. draw_of (words w 0) q) (spent_draw p)
   unfolding draw_each
   each_of_block = of_block (counts 0 1 1 1) (λ w. words w 0)
 
-  pub pairs_of_block : draw_pairs p t ≡ after {T = Tapes} (draw_block (counts 0 2 2 2) p t) (λ w q. Some ((words w 0, words w 1), q)) None
+  pub pairs_of_block : draw_pairs p t ≡ after (draw_block (counts 0 2 2 2) p t) (λ w q. draw_of {T = Shares × Shares} (words w 0, words w 1) q) (spent_draw p)
   unfolding draw_pairs
   pairs_of_block = of_block {T = Shares × Shares} (counts 0 2 2 2) (λ w. (words w 0, words w 1))

@@ -4,7 +4,6 @@ use Rattle.protocols.specs.declared.place.Party.TheVariants.{Provider, One}
 use Rattle.protocols.specs.declared.bits.Dealt.{Dealt}
 use Rattle.protocols.specs.declared.bits.Held.{Held}
 use Rattle.protocols.specs.declared.place.Received.{Received}
-use Rattle.std.specs.Prelude.{Some}
 use Rattle.protocols.specs.Outcome.{holds, fronts, puts}
 use Rattle.protocols.specs.Counts.{received}
 use Rattle.protocols.proofs.Laws.Deliveries.{both, has_room}
@@ -17,7 +16,7 @@ use Rattle.protocols.specs.declared.place.Place.{Place}
 use Rattle.protocols.specs.declared.shares.Shares.{Shares}
 use Rattle.protocols.specs.Word.{width}
 use Rattle.protocols.specs.Shares.{one, two, three, Operands}
-use Rattle.protocols.specs.Place.{Tapes, tapes, Lists, miner, controller, draw, ◌followed_by◌, to_next, to_two_three}
+use Rattle.protocols.specs.Place.{Tapes, tapes, Lists, miner, controller, draw_of, draw, ◌followed_by◌, to_next, to_two_three}
 use Rattle.protocols.specs.Draws.{draw_each, draw_pairs}
 use Rattle.protocols.specs.Lent.{Room}
 use Rattle.protocols.specs.Protocol.{◌then◌, locally, done, spent, perform}
@@ -122,12 +121,12 @@ abbrev pub sent_before : ℕ → Received
 sent_before k = received (2 + 4 * k) (5 + 4 * k) (5 + 4 * k) 0
 
 module _ (n : ℕ) (u : Shares) (p : Place) (t : Tapes) where
-  deal-done : {v : List ℕ} {p₁ : Place} → draw 3 One t.one p ≡ Some (v, p₁)
+  deal-done : {v : List ℕ} {p₁ : Place} → draw 3 One t.one p ≡ draw_of v p₁
       → perform (deal n) u p t ≡ done ((deal n).result u (of_one v)) ((deal n).received u (of_one v)) p₁
   deal-done e = deal_performs n u p t ∙ rw e
 
-  module _ {v : List ℕ} {p₁ : Place} (e : draw 3 One t.one p ≡ Some (v, p₁)) where
-    pub rounds-begun : (a b : Shares) {p₂ : Place} → draw_pairs p₁ t ≡ Some ((a, b), p₂)
+  module _ {v : List ℕ} {p₁ : Place} (e : draw 3 One t.one p ≡ draw_of v p₁) where
+    pub rounds-begun : (a b : Shares) {p₂ : Place} → draw_pairs p₁ t ≡ draw_of {T = Shares × Shares} (a, b) p₂
         → let d = (deal n).result u (of_one v) in let w = (deal n).received u (of_one v) followed_by to_next a followed_by to_next b followed_by to_two_three d.v3 d.v2 in
         (l₀ l : Lists) (h : Held) → (h ≡ begun d a b) × (l ≡ fronts l₀ w) → Performed (rounds n 0) u p t l₀ h l (sent_before 0) p₂
     unfolding rounds deal
@@ -141,7 +140,7 @@ module _ (n : ℕ) (u : Shares) (p : Place) (t : Tapes) where
         }
 
   module _ (k : ℕ) {l₀ l : Lists} {h : Held} {q : Place} (d : Performed (rounds n k) u p t l₀ h l (sent_before k) q) where
-    pub rounds_more : (a b : Shares) {q' : Place} → draw_pairs q t ≡ Some ((a, b), q')
+    pub rounds_more : (a b : Shares) {q' : Place} → draw_pairs q t ≡ draw_of {T = Shares × Shares} (a, b) q'
         → let x = masked h.p h.q in let y = masked h.s h.t in let w = to_next x followed_by to_next y followed_by to_next a followed_by to_next b in
         (l' : Lists) (h' : Held) → (h' ≡ carried (width n) k x y a b h.base) × (l' ≡ puts (sent_before k) l w)
         → Performed (rounds n (k + 1)) u p t l₀ h' l' (sent_before (k + 1)) q'
@@ -166,12 +165,12 @@ abbrev pub folded_before : ℕ → Received
 folded_before k = received (1 + 2 * k) (2 + 2 * k) (2 + 2 * k) 0
 
 module _ (n : ℕ) (x : Operands) (p : Place) (t : Tapes) where
-  compare-done : {v : List ℕ} {p₁ : Place} → draw 1 One t.one p ≡ Some (v, p₁)
+  compare-done : {v : List ℕ} {p₁ : Place} → draw 1 One t.one p ≡ draw_of v p₁
       → let b = of_one v in perform (compare n) x p t ≡ done ((compare n).result x b) ((compare n).received x b) p₁
   compare-done e = compare_performs n x p t ∙ rw e
 
-  module _ {v : List ℕ} {p₁ : Place} (e : draw 1 One t.one p ≡ Some (v, p₁)) where
-    pub folds-begun : (a : Shares) {p₂ : Place} → draw_each p₁ t ≡ Some (a, p₂)
+  module _ {v : List ℕ} {p₁ : Place} (e : draw 1 One t.one p ≡ draw_of v p₁) where
+    pub folds-begun : (a : Shares) {p₂ : Place} → draw_each p₁ t ≡ draw_of a p₂
         → let w = of_one v in
         (l₀ l : Lists) (h : Folding) → (h.p ≡ (compare n).result x w) × (h.q ≡ a) × (l ≡ fronts l₀ ((compare n).received x w followed_by to_next a))
         → Performed (folds n 0) x p t l₀ h l (folded_before 0) p₂
@@ -184,7 +183,7 @@ module _ (n : ℕ) (x : Operands) (p : Place) (t : Tapes) where
     }
 
   module _ (k : ℕ) {l₀ l : Lists} {h : Folding} {q : Place} (d : Performed (folds n k) x p t l₀ h l (folded_before k) q) where
-    pub folds_more : (a : Shares) {q' : Place} → draw_each q t ≡ Some (a, q')
+    pub folds_more : (a : Shares) {q' : Place} → draw_each q t ≡ draw_of a q'
         → let y = masked h.p h.q in
         (l' : Lists) (h' : Folding) → (h' ≡ folded (width n) k y a) × (l' ≡ puts (folded_before k) l (to_next y followed_by to_next a))
         → Performed (folds n (k + 1)) x p t l₀ h' l' (folded_before (k + 1)) q'

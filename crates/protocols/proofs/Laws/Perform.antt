@@ -6,10 +6,11 @@ use Rattle.protocols.specs.Outcome.{finished, delivered, delivery, fronts, puts}
 use Rattle.protocols.proofs.Laws.Deliveries.{fronts_puts, room_true}
 use Rattle.protocols.specs.declared.place.Received.{Received}
 use Rattle.protocols.specs.Counts.{due}
+use Rattle.protocols.specs.declared.place.Drawn.{Drawn}
 use Rattle.protocols.specs.declared.place.Place.{Place}
 use Rattle.protocols.specs.declared.shares.Shares.{Shares}
 use Rattle.protocols.specs.Shares.{one, two, three}
-use Rattle.protocols.specs.Place.{Tapes, Lists, lists, Receiver, miner, controller, list, words, tape, count, counts, plus, cut, rest, advance, moved, draw, draw_case, tape_number, enough, block, ◌followed_by◌, silence}
+use Rattle.protocols.specs.Place.{Tapes, Lists, lists, Receiver, miner, controller, list, words, tape, count, counts, plus, cut, rest, advance, moved, Draw, draw_of, spent_draw, draw, enough, block, ◌followed_by◌, silence}
 use Rattle.protocols.specs.Draws.{draw_each, draw_pairs}
 use Rattle.protocols.specs.Protocol.{Protocol, ◌then◌, repeated, locally, on, Answer, done, spent, perform}
 use Rattle.protocols.specs.Claims.{OnTapes}
@@ -31,7 +32,7 @@ module _ {S T : Type 0} where
       q : Place
       q = advance p (counts 0 1 1 1)
 
-      go : (e : Bool) → cond e (done (R s r) (L s r) q) spent ≡ after (draw_case (tape_number e) r q) (λ r q. done (R s r) (L s r) q) spent
+      go : (e : Bool) → cond e (done (R s r) (L s r) q) spent ≡ after {T = Shares} (cond e (draw_of r q) (spent_draw p)) (λ r q. done (R s r) (L s r) q) spent
       go true = refl
       go false = refl
 
@@ -49,7 +50,7 @@ module _ {S T : Type 0} where
       q = advance p (counts 0 2 2 2)
 
       go : (e : Bool) → cond e (done (R s (words b 0) (words b 1)) (L s (words b 0) (words b 1)) q) spent
-          ≡ after {T = Shares × Shares} (draw_case {T = Shares × Shares} (tape_number e) (words b 0, words b 1) q) (λ x q. done (R s x.0 x.1) (L s x.0 x.1) q) spent
+          ≡ after {T = Shares × Shares} (cond {A = Draw (Shares × Shares)} e (draw_of {T = Shares × Shares} (words b 0, words b 1) q) (spent_draw p)) (λ x q. done (R s x.0 x.1) (L s x.0 x.1) q) spent
       go true = refl
       go false = refl
 
@@ -64,7 +65,7 @@ module _ {S T : Type 0} where
       w : List ℕ
       w = take k (drop (count i p.drawn) (tape i t))
 
-      go : (e : Bool) → cond e (done (R s w) (L s w) (moved k i p)) spent ≡ after (draw_case (tape_number e) w (moved k i p)) (λ w q. done (R s w) (L s w) q) spent
+      go : (e : Bool) → cond e (done (R s w) (L s w) (moved k i p)) spent ≡ after {T = List ℕ} (cond e (draw_of w (moved k i p)) (spent_draw p)) (λ w q. done (R s w) (L s w) q) spent
       go true = refl
       go false = refl
 
@@ -196,10 +197,20 @@ delivery-done f s p t {l₀ = l₀} d h = rw (d.is, d.are, room_true l₀ d.word
 
 -- ---- done or spent, exactly
 
+-- the words of a block, tape by tape
+block_of : (n : Drawn) (p : Place) (t : Tapes) (i : Party) → tape i (block n p t) ≡ take (count i n) (drop (count i p.drawn) (tape i t))
+unfolding block
+block_of n p t Provider = refl
+block_of n p t One = refl
+block_of n p t Two = refl
+block_of n p t Three = refl
+
 pub on_tapes : {S T : Type 0} (f : Protocol S T) (s : S) (p : Place) (t : Tapes) → OnTapes f s p t
 unfolding perform
 on_tapes f s p t = record {
   spent_if = λ i h. rw (enough_false f.draws p t i h);
   done_if = λ h. rw (enough_true f.draws p t (λ i. omega (arith, h i)));
+  next_words = block_of f.draws p t;
+  next_place = refl;
   other_tapes = λ t' h. perform_agree f s p t t' h;
 }

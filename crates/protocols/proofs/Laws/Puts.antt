@@ -1,5 +1,5 @@
 -- Words that are put into a list, one after the other, and into its tail.
-use Rattle.std.proofs.Common.{◌≡◌, ℕ, suc, ◌+◌, ◌-◌, ◌<◌, ◌≤◌, List, [], ◌∷◌, ◌++◌, length, map, get_or, take, drop, set, sym, ap, ◌∙◌, append_assoc, append-nil, add-zero, zero-add, add-one, arith, length-append, length-drop, drop_of_length-le, length-take-le, take_all, drop-cons, drop-drop}
+use Rattle.std.proofs.Common.{◌≡◌, ℕ, suc, ◌+◌, ◌-◌, ◌<◌, ◌≤◌, List, [], ◌∷◌, ◌++◌, length, map, get_or, take, drop, set, sym, ap, ◌∙◌, append_assoc, append-nil, add-zero, zero-add, add-one, arith, length-drop, drop_of_length-le, length-take-le, take_all, drop-cons, drop-drop}
 use lib.Seq.{sets, sets-eq}
 use Rattle.std.proofs.lemmas.List.{map-append, length-map, take_more}
 use Rattle.protocols.specs.declared.shares.Shares.{Shares}
@@ -22,13 +22,6 @@ sets_turn l s at i h =
 
 pub sets_end : (l s : List ℕ) (at i : ℕ) → length s ≤ i → sets l (at + i) (drop i s) ≡ l
 sets_end l s at i h = rw (drop_of_length-le s {i = i} h)
-
-pub sets_four : (l : List ℕ) (at a b c d : ℕ) → set (set (set (set l at a) (at + 1) b) (at + 2) c) (at + 3) d ≡ sets l at (a ∷ b ∷ c ∷ d ∷ [])
-sets_four l at a b c d =
-    let e₁ : at + 1 ≡ suc at = omega arith in
-    let e₂ : at + 2 ≡ suc (suc at) = omega arith in
-    let e₃ : at + 3 ≡ suc (suc (suc at)) = omega arith in
-    rw (e₁, e₂, e₃)
 
 -- ---- words after words
 
@@ -83,13 +76,6 @@ tail_lent l at = all_lent l at (length l - at) (omega arith)
 
 pub tail_back : (l : List ℕ) (at : ℕ) (back : List ℕ) → take at l ++ (back ++ drop (length l - at) (drop at l)) ≡ take at l ++ back
 tail_back l at back = all_back l at (length l - at) back (omega arith)
-
--- and is as long as it was
-pub tail_kept : (l : List ℕ) (at : ℕ) (back : List ℕ) → at ≤ length l → length back ≡ length (take (length l - at) (drop at l))
-    → length (take at l ++ (back ++ drop (length l - at) (drop at l))) ≡ length l
-tail_kept l at back h e =
-    let n : length back ≡ length l - at = e ∙ ap length (tail_lent l at) ∙ length-drop at l in
-    ap length (tail_back l at back) ∙ length-append (take at l) back ∙ omega (arith, length-take-le at l h)
 
 -- words at its front are words of the list
 pub tail_sets : (l w : List ℕ) (at : ℕ) → at + length w ≤ length l → take at l ++ sets (drop at l) 0 w ≡ sets l at w

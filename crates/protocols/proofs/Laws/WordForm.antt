@@ -1,5 +1,5 @@
 -- The code's masks and shifts are the position-wise rounds, for every round of every width.
-use Rattle.std.proofs.Common.{◌≡◌, ℕ, zero, suc, ◌+◌, ◌-◌, ◌*◌, ◌/◌, ◌%◌, ◌^◌, ◌<◌, ◌≤◌, ◌⊎◌, sym, refl, ap, ◌∙◌, ap₂, inl, inr, le_refl, lt_of_le_of_lt, add-zero, mod-lt, mod-eq_of_lt, zero-lt-suc, mul_assoc, suc-mul, mul_comm, add-mul, add_comm, mul-lt-mul_of_pos_right, one-mul, pow-suc, zero-mul, mul-suc, le-mul_of_pos_right, mul_left_comm, one-add, arith, pow_pos, pow_mono, pow-add}
+use Rattle.std.proofs.Common.{◌≡◌, ℕ, zero, suc, ◌+◌, ◌-◌, ◌*◌, ◌/◌, ◌%◌, ◌^◌, ◌<◌, ◌⊎◌, sym, refl, ap, ◌∙◌, ap₂, inl, inr, le_refl, lt_of_le_of_lt, add-zero, mod-lt, mod-eq_of_lt, zero-lt-suc, mul_assoc, suc-mul, mul_comm, add-mul, add_comm, mul-lt-mul_of_pos_right, one-mul, pow-suc, zero-mul, mul-suc, le-mul_of_pos_right, mul_left_comm, one-add, arith, pow_pos, pow_mono, pow-add}
 use native.Mathlib.Nat.{add-div_left, add-mod_left, two-pow-succ, div-eq_of_lt}
 use native.Mathlib.Decide.{dec_lt}
 use lib.Arith.{digits_lt}
@@ -149,10 +149,6 @@ module _ (n k x : ℕ) (h : k < n) where
   shifted-lt =
       let some : 0 < 2 ^ (2 ^ k) - 1 = omega (arith, pow_mono (pow_pos k)) in
       omega (arith, shifted, product_lt, le-mul_of_pos_right (bit_and x (sources n k)) some)
-
-  -- what is taken away is no more than what it is taken from
-  pub spread-le : bit_and x (sources n k) ≤ bit_and x (sources n k) * 2 ^ (2 ^ k) % modulus n
-  spread-le = rw (mod-eq_of_lt shifted-lt) (le-mul_of_pos_right (bit_and x (sources n k)) (pow_pos (2 ^ k)))
 
   spread_in_lem : spread n k x ≡ spread_in k (2 ^ (n - suc k)) x
   unfolding spread spread_in sources

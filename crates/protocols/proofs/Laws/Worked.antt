@@ -14,7 +14,7 @@ use Rattle.protocols.specs.Below.{below}
 use Rattle.protocols.specs.Contents.{Contents}
 use Rattle.protocols.specs.Worked.{Sharing, Worked}
 use Rattle.protocols.proofs.Laws.RingCombine.{ring_combines}
-use Rattle.protocols.proofs.Laws.BitsCombine.{bits-combine}
+use Rattle.protocols.proofs.Laws.BitsCombine.{bits_combine}
 
 -- the product and the comparison of two words that are shared in any way
 product_is : (u v : ℕ) (x : Operands) (b : Tapes) → Sharing u v x → sum_of (modulus 5) ((multiply (modulus 5)).result x b) ≡ mul (modulus 5) u v
@@ -22,18 +22,25 @@ product_is u v x b h = (ring_combines (modulus 5) (pow_pos (width 5))).multiply_
 
 below_is : (u v : ℕ) (x : Operands) (b : Tapes) → Contents (modulus 5) (below 5).draws b → Sharing u v x
     → sum_of (modulus 5) ((below 5).result x b) ≡ bit_at (sub (modulus 5) u v) (width 5 - 1)
-below_is u v x b c h = (bits-combine 5).below_combines x b c ∙ ap₂ (λ (y z : ℕ). bit_at (sub (modulus 5) y z) (width 5 - 1)) h.0 h.1
+below_is u v x b c h = (bits_combine 5).below_combines x b c ∙ ap₂ (λ (y z : ℕ). bit_at (sub (modulus 5) y z) (width 5 - 1)) h.0 h.1
 
 pub worked : Worked
 unfolding add sub mul bit_at of_bits up sum_of xor_of ◌then◌ store multiply opening bit deal exchange source round_s round_p round rounds bits compare begin fold_share fold folds
 worked = record {
   M1 = refl;
+  M1_received = refl;
   M2 = refl;
+  M2_received = refl;
   M3 = refl;
+  M3_received = refl;
   M4 = refl;
+  M4_received = refl;
   M4_word = refl;
   M5 = refl;
+  M5_received = refl;
   M6 = refl;
+  M6_received = refl;
+  M7_value = refl;
   M7_carries = refl;
   M7_sum = refl;
   M8_ones = refl;

@@ -15,8 +15,9 @@ use Rattle.machine.specs.Lent.{tape_lengths, sizes, AreWords}
 use Rattle.machine.specs.Registers.{registers, leads_to_refusal}
 use Rattle.machine.specs.Start.{start}
 use Rattle.machine.specs.Run.{run, empty, registers_after}
-use Rattle.machine.proofs.Claims.{claims}
+use Rattle.machine.proofs.Laws.RunAgree.{throughout, run-agrees}
 use Rattle.machine.proofs.Laws.Runs.{start_by_tables}
+use Rattle.machine.proofs.Laws.ToRefusal.{opened_to_refusal}
 use Rattle.machine.proofs.Laws.Blind.Entry.{start-empty, words_from_empty}
 use Rattle.session.specs.Words.{words_of}
 use Rattle.session.specs.Contents.{start_of, count_of, body}
@@ -72,7 +73,7 @@ module _ (file w : List ℕ) (s : State) (bytes : AllBelow 256 file) (t : Taken 
       let b = sheet file w s in
       let after-k = run 5 cs empty l in
       start_by_tables 5 after-k.place after-k.lent b.inputs b.tapes after-k.lent.received
-      ∙ (claims.entry_2_run 5 cs empty l (are_words file w s bytes)).same_registers
+      ∙ (run-agrees 5 cs empty l (are_words file w s bytes)).same_registers
       ∙ ap (registers_after 5 cs (sizes l) l.inputs) (start-empty 5 l)
 
   same_registers : UpToRefusal file w s → SameRegisters (after file w s)
@@ -87,11 +88,11 @@ module _ (file w : List ℕ) (s : State) (bytes : AllBelow 256 file) (t : Taken 
       let done = ap (λ (o : Outcome). o.answer.done) (session-run file w s (no_refusal file w s t)) in
       run_lines 5 commands empty l
       ∙ ap₂ (λ (k : ℕ) (v : List ℕ). lines_with (take k commands) v) (sym done)
-      (claims.opened_to_refusal 5 commands empty l (are_words file w s bytes) ∙ ap (leads_to_refusal 5 commands (sizes l) l.inputs) (start-empty 5 l))
+      (opened_to_refusal 5 commands empty l (are_words file w s bytes) ∙ ap (leads_to_refusal 5 commands (sizes l) l.inputs) (start-empty 5 l))
 
   pub entry_2 : Entry2 file w s
   entry_2 = record {
-    throughout = claims.entry_2_throughout 5 (take (after file w s).answer.done commands) empty (given file w s) (are_words file w s bytes);
+    throughout = throughout 5 (take (after file w s).answer.done commands) empty (given file w s) (are_words file w s bytes);
     same_registers = same_registers (up_to-refusal file w s t);
     same_opened = same_opened;
   }

@@ -18,7 +18,7 @@ use Rattle.session.proofs.Laws.ContentsTests.{due_start_lem, Broken, by_chain, O
 
 -- what the chain of tests gives: 0 where no number from k on applies, the lowest otherwise
 abbrev pub Tested : (ℕ → Type 0) → ℕ → ℕ → Type 0
-Tested = Exact (λ v. v ≡ 0) (λ r. r)
+Tested = Exact (λ v. v ≡ 0) (λ r. r) (λ r. r)
 
 -- ---- each test decides its line of the table
 

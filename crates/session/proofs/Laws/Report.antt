@@ -10,7 +10,7 @@ use lib.Seq.{sets, length-take-le, get_or-take, take-take, take-append-le, drop-
 use lib.Dec.{eqb, leb}
 use Rattle.protocols.specs.Word.{modulus}
 use Rattle.machine.specs.Run.{Ran, commands_of, accepted, empty, sums_in_threes}
-use Rattle.machine.proofs.Claims.{claims}
+use Rattle.machine.proofs.Laws.ControllerWords.{controller_adds_up}
 use Rattle.machine.proofs.Laws.Threes.{commands_taken, commands_fit}
 use Rattle.protocols.proofs.Laws.Deliveries.{both}
 use Rattle.session.specs.declared.answer.SessionAnswer.{SessionAnswer}
@@ -97,7 +97,7 @@ module _ (f w : List ℕ) (s : State) where
         ≡ lines_with (commands_of (take (3 * done) (drop 12 (with_words f w))))
         (sums_in_threes (modulus 5) (take answers.place.received.controller answers.lent.received.controller))
     run-text =
-        let handed = claims.controller_adds_up 5 sheet.commands empty (lent_with sheet s) in
+        let handed = controller_adds_up 5 sheet.commands empty (lent_with sheet s) in
         run_lines 5 sheet.commands empty (lent_with sheet s)
         ∙ ap₂ lines_with (sym (ap commands_of (commands_stand f taken (3 * done) (drop (length f / 4) w) few) ∙ commands_taken done (body (words_of f) 0)))
         (handed.add_up ∙ ap (sums_in_threes (modulus 5)) (sym handed.received))
@@ -111,7 +111,7 @@ module _ (f w : List ℕ) (s : State) where
           readable = λ e. record {
             within_limit = omega (arith, few, at_most_384 f taken);
             has_commands = omega (arith, few, ends f taken, length-append (words_of f) (drop (length f / 4) w));
-            has_shares = (claims.controller_adds_up 5 sheet.commands empty (lent_with sheet s)).within (omega arith);
+            has_shares = (controller_adds_up 5 sheet.commands empty (lent_with sheet s)).within (omega arith);
           };
         }
 

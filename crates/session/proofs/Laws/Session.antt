@@ -7,8 +7,6 @@ use native.Mathlib.Omega.{arith}
 use lib.ListN.{length, take}
 use lib.Dec.{leb}
 use borrow.Author.Tests.{eq-eqb, ne_eqb, leb-true}
-use Rattle.machine.specs.Lent.{sizes}
-use Rattle.machine.specs.Verdict.{same_length}
 use Rattle.machine.specs.Run.{empty}
 use Rattle.machine.specs.declared.refusal.Refusal.{Refusal}
 use Rattle.machine.specs.Refusal.{number}
@@ -16,7 +14,7 @@ use Rattle.protocols.proofs.Laws.Deliveries.{both}
 use Rattle.session.specs.declared.answer.SessionAnswer.{SessionAnswer}
 use Rattle.session.specs.Words.{words_of}
 use Rattle.session.specs.Contents.{sheet_of}
-use Rattle.session.specs.Session.{State, outcome, answer, lent_with, tested, refusal, refused, Finish, finish, finished, performed, run_of, with_words, session}
+use Rattle.session.specs.Session.{State, outcome, answer, tested, refusal, refused, Finish, finish, finished, performed, run_of, with_words, session}
 use Rattle.session.proofs.Laws.Words.{front}
 use Rattle.session.proofs.Laws.Contents.{accepted, fits_lent}
 
@@ -26,7 +24,7 @@ words_lent f w alike h =
     let a = accepted f (alike && leb 7692 (length w)) h in
     omega (arith, fits_lent f a, leb-true 7692 (length w) (both alike (leb 7692 (length w)) a.enough).1)
 
-numbered : (r : Refusal) → 0 < number r
+pub numbered : (r : Refusal) → 0 < number r
 numbered r = grind arith
 
 module _ (f w : List ℕ) (s : State) where
@@ -43,9 +41,6 @@ module _ (f w : List ℕ) (s : State) where
   pub session-run : refusal f w s ≡ 0 → session f w s ≡ performed (finished (run_of (sheet_of (words_of f)) s)) (with_words f w)
   unfolding session
   session-run h = rw (eq-eqb (refusal f w s) 0 h)
-
-  pub words_fit : refusal f w s ≡ 0 → length f / 4 ≤ length w
-  words_fit = words_lent f w (same_length (sizes (lent_with (sheet_of (words_of f)) s)))
 
   -- as the code has it: v is what the lent words are after decoding
   pub session-done : refusal f w s ≡ 0 → (v : List ℕ) → v ≡ with_words f w → (a : SessionAnswer) (t : State)

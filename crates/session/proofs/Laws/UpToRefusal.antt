@@ -15,11 +15,12 @@ use Rattle.machine.specs.Run.{Ran, run, numbers, empty}
 use Rattle.machine.specs.Refusals.{Lowest as LowestOf, Applies as AppliesTo}
 use Rattle.machine.specs.Claims.{ToRefusal}
 use Rattle.machine.specs.Claims as machine
-use Rattle.machine.proofs.Claims.{claims}
+use Rattle.machine.proofs.Laws.Refusals.{entry_1}
 use Rattle.machine.proofs.Laws.Tests.{stable}
 use Rattle.machine.proofs.Laws.Lowest.{passes, refuses}
 use Rattle.machine.proofs.Laws.Runs.{and_then, run_last, length-answers}
 use Rattle.machine.proofs.Laws.Sound.{run-stays_sound, sound-at-empty, above_4}
+use Rattle.machine.proofs.Laws.ToRefusal.{to_refusal}
 use Rattle.session.specs.Session.{State, state_of, run_of, answer, outcome, with_words, refusal}
 use Rattle.session.specs.Refusals.{Applies, lengths_differ}
 use Rattle.session.specs.Claims.{sheet, given, after, Taken, first, leaves, UpToRefusal, all_done, stopped}
@@ -89,10 +90,10 @@ module _ (file w : List ℕ) (s : State) where
           (sym (map-append (λ (a : Answer). a.number) before.answers (o.answer ∷ [])) ∙ ap numbers (sym one_more_lem) ∙ told)
 
       unchanged : o ≡ command-outcome (command-answer o.answer.number before.place 0) before.lent
-      unchanged = (claims.entry_1 5 c before.place before.lent).unchanged (λ e. omega (arith, split.1, e))
+      unchanged = (entry_1 5 c before.place before.lent).unchanged (λ e. omega (arith, split.1, e))
 
       lowest : LowestOf 5 c before.place before.lent r
-      lowest = ((claims.entry_1 5 c before.place before.lent).refused r above).0 split.1
+      lowest = ((entry_1 5 c before.place before.lent).refused r above).0 split.1
 
       up_to-refused : UpToRefusal file w s
       up_to-refused =
@@ -106,4 +107,4 @@ module _ (file w : List ℕ) (s : State) where
     by_run (machine.stopped k r above within same told) = up_to-refused k r above within same told
 
     pub up_to-refusal : UpToRefusal file w s
-    up_to-refusal = by_run (claims.to_refusal 5 commands empty (given file w s))
+    up_to-refusal = by_run (to_refusal 5 commands empty (given file w s))

@@ -13,7 +13,7 @@ use Rattle.std.specs.Int.{from_le_bytes}
 use Rattle.std.specs.Simd.{first_chunks}
 use Rattle.protocols.proofs.Laws.Puts.{sets-append, sets_behind}
 use Rattle.protocols.proofs.Laws.Deliveries.{begins_with}
-use Rattle.session.specs.Words.{word, word_at, words_of}
+use Rattle.session.specs.Words.{word, words_of}
 
 pub length-words_of : (f : List ℕ) → length (words_of f) ≡ length f / 4
 unfolding words_of
@@ -24,22 +24,8 @@ length-words_of (a ∷ b ∷ c ∷ []) = refl
 length-words_of (a ∷ b ∷ c ∷ d ∷ r) = let h : length (words_of r) ≡ length r / 4 = length-words_of r in omega arith
 
 -- four times a successor, as an index
-four_suc-add : (i j : ℕ) → 4 * suc i + j ≡ suc (suc (suc (suc (4 * i + j))))
-four_suc-add i j = omega arith
-
 four_suc : (i : ℕ) → 4 * suc i ≡ suc (suc (suc (suc (4 * i))))
 four_suc i = omega arith
-
-pub get_or-words_of : (f : List ℕ) (i : ℕ) → i < length f / 4 → get_or (words_of f) i 0 ≡ word_at f (4 * i)
-unfolding words_of
-get_or-words_of [] i h = absurd (omega arith)
-get_or-words_of (a ∷ []) i h = absurd (omega arith)
-get_or-words_of (a ∷ b ∷ []) i h = absurd (omega arith)
-get_or-words_of (a ∷ b ∷ c ∷ []) i h = absurd (omega arith)
-get_or-words_of (a ∷ b ∷ c ∷ d ∷ r) zero h = refl
-get_or-words_of (a ∷ b ∷ c ∷ d ∷ r) (suc i) h =
-    let below : i < length r / 4 = omega arith in
-    get_or-words_of r i below ∙ rw (four_suc-add i 1, four_suc-add i 2, four_suc-add i 3, four_suc i)
 
 -- the words of a file's first bytes are its first words
 pub words_of-first : (f : List ℕ) (n : ℕ) → words_of (take (4 * n) f) ≡ take n (words_of f)

@@ -20,26 +20,29 @@ pub pairs : {m : ℕ} {o : Observer} {S T : Type 0} {f : Protocol S T} {Good : S
     → Pairing (Contents m f.draws) (λ t t'. After (f.result s t) (f.result s' t') × SameOwn o t t')
 pairs {m} {o} {f = f} B s s' a a' e = record {
   to = λ t. B.unmask s' (B.mask s t);
-  back = λ t. B.unmask s (B.mask s' t);
   to_ok = λ t h. B.unmask_words s' a' _ (B.mask_words s a t h);
-  back_ok = λ t h. B.unmask_words s a _ (B.mask_words s' a' t h);
-  back_to = λ t h. ap (B.unmask s) (B.mask_unmask s' a' _ (B.mask_words s a t h)) ∙ B.unmask_mask s a t h;
-  to_back = λ t h. ap (B.unmask s') (B.mask_unmask s a _ (B.mask_words s' a' t h)) ∙ B.unmask_mask s' a' t h;
+  one_to_one = λ t t' h h' k. sym (back t h) ∙ ap (λ (u : Tapes). B.unmask s (B.mask s' u)) k ∙ back t' h';
+  none_left_over = λ u h. (
+    B.unmask s (B.mask s' u),
+    B.unmask_words s a _ (B.mask_words s' a' u h),
+    ap (B.unmask s') (B.mask_unmask s a _ (B.mask_words s' a' u h)) ∙ B.unmask_mask s' a' u h,
+  );
   alike = λ t h.
       let t' = B.unmask s' (B.mask s t) in
       let h' = B.unmask_words s' a' (B.mask s t) (B.mask_words s a t h) in
       let masked : B.mask s' t' ≡ B.mask s t = B.mask_unmask s' a' (B.mask s t) (B.mask_words s a t h) in
       ((B.same s s' a a' e t t' h h' (sym masked)).0, λ p q. sym (B.mask_own s' a' t' h' p q) ∙ ap (tape p) masked ∙ B.mask_own s a t h p q);
 }
+  where
+    back : (t : Tapes) → Contents m f.draws t → B.unmask s (B.mask s' (B.unmask s' (B.mask s t))) ≡ t
+    back t h = ap (B.unmask s) (B.mask_unmask s' a' _ (B.mask_words s a t h)) ∙ B.unmask_mask s a t h
 
 pub weaken : {Ok : Tapes → Type 0} {Like Like' : Tapes → Tapes → Type 0} → ((t t' : Tapes) → Ok t → Ok t' → Like t t' → Like' t t') → Pairing Ok Like → Pairing Ok Like'
 weaken f P = record {
   to = P.to;
-  back = P.back;
   to_ok = P.to_ok;
-  back_ok = P.back_ok;
-  back_to = P.back_to;
-  to_back = P.to_back;
+  one_to_one = P.one_to_one;
+  none_left_over = P.none_left_over;
   alike = λ t h. f t (P.to t) h (P.to_ok t h) (P.alike t h);
 }
 
@@ -48,10 +51,10 @@ pub fixed : {m : ℕ} {d : Drawn} {Like : Tapes → Tapes → Type 0} (o : Obser
     → Pairing (Contents m d) (λ t t'. Like t t' × SameOwn o t t') → Pairing (λ t. Contents m d t × (tape p t ≡ own)) Like
 fixed o p q own P = record {
   to = P.to;
-  back = P.back;
   to_ok = λ t h. (P.to_ok t h.0, (P.alike t h.0).1 p q ∙ h.1);
-  back_ok = λ t h. (P.back_ok t h.0, sym ((P.alike (P.back t) (P.back_ok t h.0)).1 p q) ∙ ap (tape p) (P.to_back t h.0) ∙ h.1);
-  back_to = λ t h. P.back_to t h.0;
-  to_back = λ t h. P.to_back t h.0;
+  one_to_one = λ t t' h h'. P.one_to_one t t' h.0 h'.0;
+  none_left_over = λ u h.
+      let w = P.none_left_over u h.0 in
+      (w.0, (w.1, sym ((P.alike w.0 w.1).1 p q) ∙ ap (tape p) w.2 ∙ h.1), w.2);
   alike = λ t h. (P.alike t h.0).0;
 }

@@ -1,4 +1,4 @@
--- What pairings and equal records tell.
+-- What equal records tell.
 use Prim.Native.Nat.{ℕ, zero, suc, ◌-◌, ◌<◌}
 use mathlib.Core.Path.{◌≡◌, refl, sym, ap, ◌∙◌}
 use mathlib.Core.List.{List, [], ◌∷◌, map}
@@ -6,19 +6,12 @@ use native.Mathlib.Omega.{arith}
 use lib.ListN.{get_or, take}
 use Rattle.protocols.specs.declared.place.Place.{Place}
 use Rattle.protocols.specs.Shares.{Miner}
-use Rattle.protocols.specs.Place.{Tapes, Receiver, miner, controller, list}
+use Rattle.protocols.specs.Place.{Receiver, miner, controller, list}
 use Rattle.protocols.specs.Counts.{due}
 use Rattle.machine.specs.declared.answer.Answer.{Answer}
 use Rattle.machine.specs.Lent.{table, received_words}
 use Rattle.machine.specs.Run.{Ran, Reply, reply}
 use Rattle.machine.specs.Records.{MinerRecord, miner_record, ControllerRecord, controller_record, SameReplies, SameWords, SameToMiner, SameToController}
-use Rattle.machine.specs.Pairing.{Pairing, OneToOne}
-
-pub pairings : {Ok : Tapes → Type 0} {Alike : Tapes → Tapes → Type 0} (P : Pairing Ok Alike) → OneToOne P
-pairings P = record {
-  one_to_one = λ t t' h h' e. sym (P.back_to t h) ∙ ap P.back e ∙ P.back_to t' h';
-  none_left_over = λ t h. (P.back_ok t h, P.to_back t h, rw (P.to_back t h) at (P.alike (P.back t) (P.back_ok t h)));
-}
 
 -- ---- lists by their entries
 

@@ -14,6 +14,7 @@ use Rattle.protocols.specs.Counts.{due}
 use Rattle.protocols.specs.Blind.{Observer, Sees, SameShares, Blind}
 use Rattle.protocols.proofs.Laws.Blind.Compose.{blind_then, blind_unmasked}
 use Rattle.machine.specs.declared.code.Command.{Command}
+use Rattle.machine.specs.declared.refusal.Refusal.{Refusal}
 use Rattle.machine.specs.declared.code.Code.{Code}
 use Rattle.machine.specs.declared.code.Code.TheVariants.{Open}
 use Rattle.machine.specs.declared.lent.Sizes.{Sizes}
@@ -143,7 +144,7 @@ module _ (n : ℕ) (o : Observer) (c : Command) (cs : List Command) (p : Place) 
               (same_left l l' h h' s b b' hb hb' t.0 t.1, t.1);
         }
 
-  refused-blind : (r : ℕ) → verdict n c p z k ≡ Refused r
+  refused-blind : (r : Refusal) → verdict n c p z k ≡ Refused r
       → Blind (modulus n) o (step_protocol n (Refused r) c p) (Held n p z k) (Alike n o (c ∷ cs) p z) (Alike n o cs p z)
   refused-blind r e = record {
     mask = λ l b. b;

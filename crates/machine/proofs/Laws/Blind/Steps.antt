@@ -6,7 +6,7 @@ use Rattle.protocols.specs.Shares.{sum_of}
 use Rattle.protocols.specs.Place.{controller}
 use Rattle.protocols.specs.Protocol.{Protocol, on}
 use Rattle.protocols.specs.Blind.{Observer, Sees, SameShares, Blind}
-use Rattle.protocols.proofs.Claims.{claims}
+use Rattle.protocols.proofs.Laws.Blind.{blind_protocols}
 use Rattle.machine.specs.declared.code.Code.{Code}
 use Rattle.machine.specs.declared.code.Code.TheVariants.{Store, Add, Subtract, AddConstant, TimesConstant, Multiply, Reshare, Bits, Bit, Equal, Open, Below}
 use Rattle.machine.specs.declared.given.Given.{Given}
@@ -38,15 +38,15 @@ blind-on part good like B = record {
 pub steps_blind : (n : ℕ) (o : Observer) (x : Code) (b : ℕ)
     → Blind (modulus n) o (protocol n x b) (GivenAreWords n x) (SameGiven n o x) (SameShares o)
 unfolding protocol
-steps_blind n o Store b = blind-on (λ g. g.input) (λ g h. h.0) (λ g g' s. tt) (claims.blind n o).store_blind
-steps_blind n o Add b = blind-on both (λ g h. (h.1, h.2)) (λ g g' s. (s.u, s.v)) (claims.blind n o).sum_blind
-steps_blind n o Subtract b = blind-on both (λ g h. (h.1, h.2)) (λ g g' s. (s.u, s.v)) (claims.blind n o).difference_blind
-steps_blind n o AddConstant b = blind-on (λ g. g.u) (λ g h. h.1) (λ g g' s. s.u) ((claims.blind n o).shifted_blind b)
-steps_blind n o TimesConstant b = blind-on (λ g. g.u) (λ g h. h.1) (λ g g' s. s.u) ((claims.blind n o).multiple_blind b)
-steps_blind n o Multiply b = blind-on both (λ g h. (h.1, h.2)) (λ g g' s. (s.u, s.v)) (claims.blind n o).multiply_blind
-steps_blind n o Reshare b = blind-on (λ g. g.u) (λ g h. h.1) (λ g g' s. s.u) (claims.blind n o).reshare_blind
-steps_blind n o Bits b = blind-on (λ g. g.u) (λ g h. h.1) (λ g g' s. s.u) (claims.blind n o).bits_blind
-steps_blind n o Bit b = blind-on (λ g. g.u) (λ g h. h.1) (λ g g' s. s.u) ((claims.blind n o).bit_blind b)
-steps_blind n o Equal b = blind-on both (λ g h. (h.1, h.2)) (λ g g' s. (s.u, s.v)) (claims.blind n o).equal_blind
-steps_blind n o Open b = blind-on (λ g. g.u) (λ g h. h.1) (λ g g' s. (s.u, s.opened refl)) (claims.blind n o).opening_blind
-steps_blind n o Below b = blind-on both (λ g h. (h.1, h.2)) (λ g g' s. (s.u, s.v)) (claims.blind n o).below_blind
+steps_blind n o Store b = blind-on (λ g. g.input) (λ g h. h.0) (λ g g' s. tt) (blind_protocols n o).store_blind
+steps_blind n o Add b = blind-on both (λ g h. (h.1, h.2)) (λ g g' s. (s.u, s.v)) (blind_protocols n o).sum_blind
+steps_blind n o Subtract b = blind-on both (λ g h. (h.1, h.2)) (λ g g' s. (s.u, s.v)) (blind_protocols n o).difference_blind
+steps_blind n o AddConstant b = blind-on (λ g. g.u) (λ g h. h.1) (λ g g' s. s.u) ((blind_protocols n o).shifted_blind b)
+steps_blind n o TimesConstant b = blind-on (λ g. g.u) (λ g h. h.1) (λ g g' s. s.u) ((blind_protocols n o).multiple_blind b)
+steps_blind n o Multiply b = blind-on both (λ g h. (h.1, h.2)) (λ g g' s. (s.u, s.v)) (blind_protocols n o).multiply_blind
+steps_blind n o Reshare b = blind-on (λ g. g.u) (λ g h. h.1) (λ g g' s. s.u) (blind_protocols n o).reshare_blind
+steps_blind n o Bits b = blind-on (λ g. g.u) (λ g h. h.1) (λ g g' s. s.u) (blind_protocols n o).bits_blind
+steps_blind n o Bit b = blind-on (λ g. g.u) (λ g h. h.1) (λ g g' s. s.u) ((blind_protocols n o).bit_blind b)
+steps_blind n o Equal b = blind-on both (λ g h. (h.1, h.2)) (λ g g' s. (s.u, s.v)) (blind_protocols n o).equal_blind
+steps_blind n o Open b = blind-on (λ g. g.u) (λ g h. h.1) (λ g g' s. (s.u, s.opened refl)) (blind_protocols n o).opening_blind
+steps_blind n o Below b = blind-on both (λ g h. (h.1, h.2)) (λ g g' s. (s.u, s.v)) (blind_protocols n o).below_blind

@@ -8,7 +8,7 @@ pub returns-in_err-fields : goal.returns-in_err-fields
 returns-in_err-fields c =
     let a = c.args in
     let e = err_from_is_err_and c.from_residual.result c.from_residual.ensures.1 in
-    rw (e.1, e.2) (fields_refused 5 (row 5 a.code) a.c a.p a.entries a.inputs a.kinds.now c.requires c.in_err-fields.field-0.0 c.in_err-fields.ensures)
+    rw (e.1, e.2) (fields_refused 5 (row 5 a.code) a.c a.p a.entries a.inputs a.kinds.now c.requires c.in_err-fields.ensures)
 
 pub returns : goal.returns
 returns c =

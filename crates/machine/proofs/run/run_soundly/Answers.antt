@@ -7,7 +7,7 @@ use Rattle.machine.specs.declared.answer.Accepted.{Accepted}
 use Rattle.machine.specs.declared.refusal.Refusal.{Refusal}
 use Rattle.machine.specs.Lent.{Lent}
 use Rattle.machine.specs.Command.{Outcome, answer, answer_of, outcome}
-use Rattle.machine.proofs.Laws.Tested.{numbered}
+use Rattle.machine.proofs.Laws.Rows.{numbered}
 use Rattle.machine.proofs.Laws.RunTurns.{still-whole, turn-accepted, turn-refused, turn-sound, turns_end}
 use Rattle.machine.proofs.run.run_soundly.Goals as goal
 

@@ -1,7 +1,7 @@
 -- `machine::step::step_of` meets its contract.
 use Rattle.std.proofs.Common.{refl}
 use Rattle.std.proofs.lemmas.Result.{err_from_is_err_and}
-use Rattle.machine.proofs.Laws.Tested.{not_none, begun}
+use Rattle.machine.proofs.Laws.Tested.{begun}
 use Rattle.machine.proofs.Laws.Step.{refused_is, passed_is}
 use Rattle.machine.proofs.step.step_of.Goals as goal
 
@@ -10,7 +10,7 @@ returns-in_err-fields_and_room-clause-done g c =
     let p = err_from_is_err_and c.from_residual.result c.from_residual.ensures.1 in
     rw (p.1, p.2)
     (refused_is c.args.c c.args.place _ c.requires.0 c.args.code refl c.requires.1
-    (rw c.kinds.ensures at c.in_err-fields_and_room.ensures) (not_none _) refl)
+    (rw c.kinds.ensures at c.in_err-fields_and_room.ensures) refl)
 
 pub accept-requires : goal.accept-requires
 accept-requires g c =

@@ -1,8 +1,8 @@
 -- `protocols::bits::bits_on` meets its contract.
-use Rattle.std.proofs.Common.{◌∙◌, [], sym, ap}
+use Rattle.std.proofs.Common.{[]}
 use Rattle.protocols.specs.Place.{tapes, lists, counts}
 use Rattle.protocols.specs.Counts.{received}
-use Rattle.protocols.specs.Lent.{tapes_of, drawn_block}
+use Rattle.protocols.specs.Lent.{tapes_of}
 use Rattle.protocols.specs.Bits.{bits}
 use Rattle.protocols.proofs.Laws.Deliveries.{room_lacks, due_fits, fronts_written}
 use Rattle.protocols.proofs.Laws.Lent.{rooms}
@@ -14,12 +14,12 @@ pub returns-in_default : goal.returns-in_default
 returns-in_default c =
     let a = c.args in
     spent_delivers (bits 5) (counts 0 15 12 12) table_at_32.bits_row.drawn a.u a.place (tapes_of a.tapes)
-    (sym c.draw_block.ensures ∙ ap drawn_block c.in_default.is) (lists a.one.now a.two.now a.three.now [])
+    c.in_default.is c.draw_block.ensures (lists a.one.now a.two.now a.three.now [])
 
 pub returns-then-not-have_room : goal.returns-then-not-have_room
 returns-then-not-have_room c =
     let a = c.args in
-    let d = block_drawn _ _ _ (sym c.draw_block.ensures ∙ ap drawn_block c.in-Some.is) in
+    let d = block_drawn _ _ _ c.in-Some.is c.draw_block.ensures in
     room_lacks (bits 5) (counts 0 15 12 12) table_at_32.bits_row.drawn a.u a.place (tapes_of a.tapes) (lists a.one.now a.two.now a.three.now [])
     (received 22 25 25 0) table_at_32.bits_row.long d.0 (cc)
 
@@ -31,5 +31,5 @@ returns c =
     let long = table_at_32.bits_row.long in
     let room = due_fits 22 25 25 l (rooms 22 25 25 l (cc)) in
     delivery_drawn (bits 5) (counts 0 15 12 12) table_at_32.bits_row.drawn a.u a.place (tapes_of a.tapes)
-    (sym c.draw_block.ensures ∙ ap drawn_block c.in-Some.is) (received 22 25 25 0) long room
+    c.in-Some.is c.draw_block.ensures (received 22 25 25 0) long room
     (c.on_words.ensures.0, fronts_written l ((bits 5).received a.u w) (received 22 25 25 0) (long a.u w) room c.on_words.ensures.1)

@@ -1,9 +1,9 @@
 -- `protocols::equal::equal_on` meets its contract.
-use Rattle.std.proofs.Common.{◌∙◌, [], sym, ap}
+use Rattle.std.proofs.Common.{[]}
 use Rattle.protocols.specs.Shares.{operands}
 use Rattle.protocols.specs.Place.{tapes, lists, counts}
 use Rattle.protocols.specs.Counts.{received}
-use Rattle.protocols.specs.Lent.{tapes_of, drawn_block}
+use Rattle.protocols.specs.Lent.{tapes_of}
 use Rattle.protocols.specs.Equal.{equal}
 use Rattle.protocols.proofs.Laws.Deliveries.{room_lacks, due_fits, fronts_written}
 use Rattle.protocols.proofs.Laws.Lent.{rooms}
@@ -15,12 +15,12 @@ pub returns-in_default : goal.returns-in_default
 returns-in_default c =
     let a = c.args in
     spent_delivers (equal 5) (counts 0 10 6 6) table_at_32.equal_row.drawn (operands a.u a.v) a.place (tapes_of a.tapes)
-    (sym c.draw_block.ensures ∙ ap drawn_block c.in_default.is) (lists a.one.now a.two.now a.three.now [])
+    c.in_default.is c.draw_block.ensures (lists a.one.now a.two.now a.three.now [])
 
 pub returns-then-not-have_room : goal.returns-then-not-have_room
 returns-then-not-have_room c =
     let a = c.args in
-    let d = block_drawn _ _ _ (sym c.draw_block.ensures ∙ ap drawn_block c.in-Some.is) in
+    let d = block_drawn _ _ _ c.in-Some.is c.draw_block.ensures in
     room_lacks (equal 5) (counts 0 10 6 6) table_at_32.equal_row.drawn (operands a.u a.v) a.place (tapes_of a.tapes)
     (lists a.one.now a.two.now a.three.now []) (received 11 15 15 0) table_at_32.equal_row.long d.0 (cc)
 
@@ -34,5 +34,5 @@ returns c =
     let room = due_fits 11 15 15 l (rooms 11 15 15 l (cc)) in
     let made = c.on_words.ensures x c.difference-d.ensures in
     delivery_drawn (equal 5) (counts 0 10 6 6) table_at_32.equal_row.drawn x a.place (tapes_of a.tapes)
-    (sym c.draw_block.ensures ∙ ap drawn_block c.in-Some.is) (received 11 15 15 0) long room
+    c.in-Some.is c.draw_block.ensures (received 11 15 15 0) long room
     (made.0, fronts_written l ((equal 5).received x w) (received 11 15 15 0) (long x w) room made.1)

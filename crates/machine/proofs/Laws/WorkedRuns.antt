@@ -1,0 +1,36 @@
+-- The worked runs, by computation: all definitions on which a run stands are opened here, those of the protocols too.
+use mathlib.Core.Path.{refl}
+use Rattle.protocols.specs.Word.{add, sub, mul, bit_at, of_bits, up}
+use Rattle.protocols.specs.Shares.{sum_of}
+use Rattle.protocols.specs.Place.{block}
+use Rattle.protocols.specs.Protocol.{◌then◌}
+use Rattle.protocols.specs.Store.{store}
+use Rattle.protocols.specs.Reshare.{reshare}
+use Rattle.protocols.specs.Multiply.{multiply}
+use Rattle.protocols.specs.Bit.{bit}
+use Rattle.protocols.specs.Bits.{deal, exchange, source, round_s, round_p, round, rounds, bits}
+use Rattle.protocols.specs.Equal.{compare, begin, fold_share, fold, folds, equal}
+use Rattle.protocols.specs.Open.{opening}
+use Rattle.protocols.specs.Below.{below}
+use Rattle.machine.specs.Verdict.{judged, verdict}
+use Rattle.machine.specs.Steps.{protocol}
+use Rattle.machine.specs.Command.{accepted, command}
+use Rattle.machine.specs.WorkedRuns.{WorkedRuns}
+
+pub worked_runs : WorkedRuns
+unfolding add sub mul bit_at of_bits up sum_of block ◌then◌ store reshare multiply bit deal exchange source round_s round_p round
+    rounds bits compare begin fold_share fold folds equal opening below judged verdict protocol accepted command
+worked_runs = record {
+  store = refl;
+  add = refl;
+  subtract = refl;
+  add_constant = refl;
+  times_constant = refl;
+  multiply = refl;
+  reshare = refl;
+  bits = refl;
+  bit = refl;
+  equal = refl;
+  opening = refl;
+  below = refl;
+}

@@ -1,0 +1,98 @@
+// What this crate promises of every command and of every run. Each function is one claim, proved as its contract: its
+// body is empty, since what it ensures is a fact about the definitions that the contracts of `command` and `run` cite.
+// docs/CLAIMS.md explains each.
+ghost use Rattle.std.specs.Prelude.{ℕ, ◌^◌, List};
+ghost use Rattle.protocols.specs.declared.place.Place.{Place};
+ghost use Rattle.protocols.specs.Word.{modulus};
+ghost use Rattle.protocols.specs.Shares.{Miner};
+ghost use Rattle.machine.specs.declared.code.Command.{Command};
+ghost use Rattle.machine.specs.Lent.{Lent, AreWords};
+ghost use Rattle.machine.specs.Run.{Ran, run_to_refusal};
+ghost use Rattle.machine.specs.Claims as claims;
+ghost use Rattle.machine.specs.WorkedRuns.{WorkedRuns};
+
+// Each code word names its command, and each command has its line of the table.
+pub fn table_at_32()
+    ensures { claims.TableAt32 }
+{}
+
+// Every command is answered by the table of refusals, and a refused one changes nothing.
+pub fn entry_1()
+    ensures { (n : ℕ) (c : Command) (p : Place) (l : Lent) → claims.Entry1 n c p l }
+{}
+
+// After every command the shares combine to what the register machine holds, and all counts are those of the table.
+pub fn entry_2()
+    ensures { (n : ℕ) (c : Command) (p : Place) (l : Lent) → AreWords (modulus n) p l → claims.Entry2 n c p l }
+{}
+
+// The words that each party receives from store, multiply, reshare, bit and open, one by one.
+pub fn transcript()
+    ensures { (n : ℕ) (c : Command) (p : Place) (l : Lent) → claims.Transcript n c p l }
+{}
+
+// What `entry_2` says holds at each command of a list.
+pub fn throughout()
+    ensures { (n : ℕ) (cs : List Command) (p : Place) (l : Lent)
+        → AreWords (modulus n) p l → claims.Throughout n cs p l }
+{}
+
+// The register machine, run by itself, gives the same replies, registers and opened words.
+pub fn run_agrees()
+    ensures { (n : ℕ) (cs : List Command) (p : Place) (l : Lent)
+        → AreWords (modulus n) p l → claims.RunAgrees n cs p l }
+{}
+
+// A run that stops at the first refused command is the run of the commands up to that one.
+pub fn to_refusal()
+    ensures { (n : ℕ) (cs : List Command) (p : Place) (l : Lent) → claims.ToRefusal n cs p l }
+{}
+
+// A run that stops at the first refused command opens what its inputs lead to.
+pub fn opened_to_refusal()
+    ensures { (n : ℕ) (cs : List Command) (p : Place) (l : Lent)
+        → AreWords (modulus n) p l → claims.OpenedToRefusal n cs p l }
+{}
+
+// What the controller receives in such a run adds up, in threes, to the words that it opens.
+pub fn adds_up()
+    ensures { (n : ℕ) (cs : List Command) (p : Place) (l : Lent)
+        → claims.AddsUp (modulus n) cs p l (run_to_refusal n cs p l) }
+{}
+
+// Where number 4 does not apply, it does not apply after any command.
+pub fn stays_sound()
+    ensures { (n : ℕ) (c d : Command) (p : Place) (l : Lent) → claims.StaysSound n c d p l }
+{}
+
+// Every miner's record of a run, and the controller's, is blind to the inputs.
+pub fn entry_3()
+    ensures every_width { (n : ℕ) → claims.Entry3 n (modulus n) }
+    ensures at_32 { claims.Entry3 5 (2 ^ 32) }
+{}
+
+// Every miner's record of a run that stops at the first refused command, and the controller's, is blind to the inputs.
+pub fn entry_3_to_refusal()
+    ensures every_width { (n : ℕ) → claims.Entry3ToRefusal n (modulus n) }
+    ensures at_32 { claims.Entry3ToRefusal 5 (2 ^ 32) }
+{}
+
+// Equal records of a miner are equal in all that a miner has after a run.
+pub fn miner_records()
+    ensures { (i : Miner) (r r' : Ran) → claims.MinerRecords i r r' }
+{}
+
+// Equal records of the controller are equal in all that the controller has after a run.
+pub fn controller_records()
+    ensures { (r r' : Ran) → claims.ControllerRecords r r' }
+{}
+
+// The protocol of an accepted command is done, never spent.
+pub fn never_spent()
+    ensures { (n : ℕ) (c : Command) (p : Place) (l : Lent) → claims.NeverSpent n c p l }
+{}
+
+// One run of each command, reckoned by a second writing: every number, every share, every received list whole.
+pub fn worked_runs()
+    ensures { WorkedRuns }
+{}

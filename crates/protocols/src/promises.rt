@@ -1,0 +1,78 @@
+// What this crate promises of the protocols as a whole: each claim is the contract of a function, so that it is proved
+// wherever this crate is. There is nothing to run in them. (The statements, part by part, are in specs/Claims.antt and
+// specs/Worked.antt.)
+ghost use Rattle.std.specs.Prelude.{◌≡◌, ℕ, ◌<◌, List};
+ghost use Rattle.protocols.specs.declared.place.Party.{Party};
+ghost use Rattle.protocols.specs.declared.place.Place.{Place};
+ghost use Rattle.protocols.specs.declared.shares.Shares.{Shares};
+ghost use Rattle.protocols.specs.Word.{bit_at};
+ghost use Rattle.protocols.specs.Shares.{Operands};
+ghost use Rattle.protocols.specs.Place.{Tapes, Lists};
+ghost use Rattle.protocols.specs.Protocol.{Protocol};
+ghost use Rattle.protocols.specs.Blind.{Observer};
+ghost use Rattle.protocols.specs.Claims.{RingCombines, BitsCombine, Table, TableAt32, BlindProtocols, WordForms, SourceIs, DrawIs, OnTapes, Delivers, Transcripts};
+ghost use Rattle.protocols.specs.Worked.{Worked};
+
+// Whatever is drawn, the new shares of every ring protocol add up to the right word.
+pub fn ring_combines()
+    ensures { (m : ℕ) → 0 < m → RingCombines m }
+{}
+
+// Whatever is drawn, the new shares of Bit, Bits, Equal and Below give the right word.
+pub fn bits_combine()
+    ensures { (n : ℕ) → BitsCombine n }
+{}
+
+// Every protocol draws and delivers as many words as its row says, and makes words of words.
+pub fn table()
+    ensures { (n : ℕ) → Table n }
+{}
+
+// The rows that depend on the width, as numbers at 32 bits.
+pub fn table_at_32()
+    ensures { TableAt32 }
+{}
+
+// To a miner, to the controller and to a miner that is controller too, no protocol tells more of its operands than it
+// may.
+pub fn blind_protocols()
+    ensures { (n : ℕ) (o : Observer) → BlindProtocols n o }
+{}
+
+// The code's rounds on whole words are the rounds position by position.
+pub fn word_forms()
+    ensures { (n k : ℕ) → k < n → WordForms n k }
+{}
+
+// A position of a carry round takes from the highest lower position that has its block's carry.
+pub fn source_is()
+    ensures { (k j : ℕ) → bit_at j k ≡ 1 → SourceIs k j }
+{}
+
+// A draw is 0, the words and the moved place, or 12 and the place as it was, where the tape has too few words left.
+pub fn draw_is()
+    ensures { (k : ℕ) (i : Party) (l : List ℕ) (p : Place) → DrawIs k i l p }
+{}
+
+// A protocol is spent exactly where a tape has too few words left; of an input, of a value's shares and of two values'
+// shares.
+pub fn on_tapes()
+    ensures of_input { (f : Protocol ℕ Shares) (s : ℕ) (p : Place) (t : Tapes) → OnTapes f s p t }
+    ensures of_shares { (f : Protocol Shares Shares) (s : Shares) (p : Place) (t : Tapes) → OnTapes f s p t }
+    ensures of_operands { (f : Protocol Operands Shares) (s : Operands) (p : Place) (t : Tapes) → OnTapes f s p t }
+{}
+
+// A protocol's words are delivered whole, or nothing is written.
+pub fn delivers()
+    ensures { (p : Place) (l : Lists) (s : Shares) (w : Lists) (q : Place) → Delivers p l s w q }
+{}
+
+// The words that each party receives, written out in the order in which they come.
+pub fn transcripts()
+    ensures { (m : ℕ) → Transcripts m }
+{}
+
+// The cases that were reckoned by hand.
+pub fn worked()
+    ensures { Worked }
+{}

@@ -1,0 +1,166 @@
+"""The worked session, one that stops and the empty one, for the prover to check by computation.
+
+The numbers are those of command_cases.py, which is written apart from the engine. To write the file that crates/session
+keeps:
+
+    python3 tests/worked_session.py > crates/session/specs/Worked.antt
+
+The worked session and its text are those on which the program `pool` is run.
+"""
+
+import string
+import struct
+import sys
+
+sys.dont_write_bytecode = True
+from command_cases import CRATE, HANDLES, INPUTS, LISTS, PLACES, TABLES, TAPES, Machine
+from worked_runs import chain
+
+# Commands, inputs and tapes: of the worked session, and of one whose second command names handle 0.
+WORKED = [(1, 0, 0), (1, 0, 0), (6, 1, 2), (11, 3, 0)], [7, 5], [[1, 2, 3, 4], [10, 20, 70], [30, 40, 80], [50, 60, 90]]
+STOPPED = [(1, 0, 0), (2, 0, 1)], [7], [[1, 2], [], [], []]
+ENTRIES, ROOM = 128, 3584  # the lists that the program lends
+POOL = CRATE.parent / "pool"
+FILE = string.Template("""\
+-- The worked session, one that stops and the empty one. The numbers are those of a second writing of the machine,
+-- which shares nothing with this one: tests/worked_session.py prints this file.
+use Rattle.std.specs.Prelude.{◌≡◌, ℕ, ◌/◌, ◌%◌, ◌≤◌, List, [], ◌∷◌, ◌++◌, length, drop, replicate, codes}
+use Rattle.protocols.specs.Place.{lists, place_of}
+use Rattle.machine.specs.Lent.{tables}
+use Rattle.machine.specs.Run.{empty}
+use Rattle.session.specs.Session.{State, state, answer, outcome, session}
+use Rattle.session.specs.Text.{printed, pool}
+
+-- ---- the files
+
+-- words as bytes, the lowest byte of each first
+abbrev pub bytes : List ℕ → List ℕ
+bytes [] = []
+bytes (w ∷ l) = w % 256 ∷ w / 256 % 256 ∷ w / 65536 % 256 ∷ w / 16777216 ∷ bytes l
+
+-- start and count of each body; four commands; two inputs; the tapes of the provider and of miners 1 to 3
+abbrev pub worked : List ℕ
+worked =
+$worked
+
+-- a store, and an add that names handle 0
+abbrev pub stopped : List ℕ
+stopped =
+$stopped
+
+-- six bodies without a word
+abbrev pub nothing : List ℕ
+nothing =
+$nothing
+
+-- ---- what the program lends, and what the first two leave in it
+
+abbrev pub zeros : ℕ → List ℕ
+zeros n = replicate n 0
+
+-- share tables and kinds; the words received by miners 1 to 3 and the controller
+abbrev pub before : State
+before =
+    state (tables (zeros $entries) (zeros $entries) (zeros $entries)) (zeros $entries)
+    (lists (zeros $room) (zeros $room) (zeros $room) (zeros $room))
+
+-- two values and their product
+abbrev pub after : State
+after =
+    state
+$worked_left
+
+-- the value that was stored
+abbrev pub after_stop : State
+after_stop =
+    state
+$stopped_left
+
+-- promised by `worked_session`: whatever words are lent, if they are $fewest or more, the bytes of these three files
+-- lead to exactly these answers and texts, and leave exactly these shares, kinds and received words, every list whole;
+-- the lent words then begin with the file's, and the rest of them is as it was. A file of no word is refused.
+pub record WorkedSession : Type 0 where
+  -- four commands are done; the ten counts of the place record
+  pub answered : (w : List ℕ) → $fewest ≤ length w
+      → session (bytes worked) w before
+      ≡ outcome (answer $worked_answer) (worked ++ drop $worked_length w) after
+  pub shown : (w : List ℕ) → $fewest ≤ length w
+      → pool (bytes worked) w before ≡ printed (codes "$worked_text") (worked ++ drop $worked_length w) after
+  -- one command is done, and what it left stays; the next one is refused
+  pub stop_answered : (w : List ℕ) → $fewest ≤ length w
+      → session (bytes stopped) w before
+      ≡ outcome (answer $stopped_answer) (stopped ++ drop $stopped_length w) after_stop
+  pub stop_shown : (w : List ℕ) → $fewest ≤ length w
+      → pool (bytes stopped) w before ≡ printed (codes "$stopped_text") (stopped ++ drop $stopped_length w) after_stop
+  -- no command is done, and only the lent words change
+  pub nothing_answered : (w : List ℕ) → $fewest ≤ length w
+      → session (bytes nothing) w before ≡ outcome (answer 0 empty 0) (nothing ++ drop 12 w) before
+  pub nothing_shown : (w : List ℕ) → $fewest ≤ length w
+      → pool (bytes nothing) w before ≡ printed (codes "end 0 0 0 0 0\\n") (nothing ++ drop 12 w) before
+  -- no command is done, and nothing changes
+  pub short_answered : (w : List ℕ) → session [] w before ≡ outcome (answer 0 empty 1) w before
+  pub short_shown : (w : List ℕ) → pool [] w before ≡ printed (codes "refused 1\\n") w before
+""")
+
+
+def sheet(bodies):
+    """The words of a file: the contents, and each body."""
+    starts = [12 + sum(map(len, bodies[:n])) for n in range(6)]
+    contents = [word for start, body in zip(starts, bodies) for word in (start, len(body))]
+    return [contents, *bodies]
+
+
+def listed(parts):
+    return "    " + " ∷\n    ".join(" ∷ ".join(map(str, part)) for part in parts if part) + " ∷ []"
+
+
+def with_zeros(words, length):
+    assert not any(words[length:])
+    return "    (" + " ∷ ".join([*map(str, words[:length]), f"zeros {len(words) - length}"]) + ")"
+
+
+def run(commands, inputs, tapes):
+    """The file's bodies, the answer as the prover has it, the text, and what is left."""
+    lists = {**dict.fromkeys(TABLES, [0] * ENTRIES), **dict.fromkeys(LISTS, [0] * ROOM), INPUTS: inputs}
+    machine = Machine(lists | dict(zip(TAPES, tapes)), dict.fromkeys(PLACES, 0))
+    done, number, text = 0, 0, ""
+    for code, a, b in commands:
+        numbers, word = machine.command(code, a, b)
+        number = min(numbers, default=0)
+        if number:
+            break
+        done += 1
+        text += f"open {a} {word}\n" if code == 11 else ""
+    place = machine.place
+    last = ["refused", number, "at", done] if number else ["end", done, *(place[name] for name in LISTS)]
+    bodies = sheet([[word for command in commands for word in command], inputs, *tapes])
+    answer = f"{done} (place_of ({chain(place[name] for name in PLACES)})) {number}"
+    return bodies, answer, text + " ".join(map(str, last)) + "\n", left_by(machine)
+
+
+def left_by(machine):
+    """Tables, kinds and received lists, as the prover has them."""
+    place, left = machine.place, machine.lists
+    tables = [with_zeros(left[name], place[HANDLES]) for name in TABLES]
+    received = [with_zeros(left[name], place[name]) for name in LISTS]
+    shares = ["    (tables", *tables[:2], tables[2] + ")"]
+    words = ["    (lists", *received[:3], received[3] + ")"]
+    return "\n".join([*shares, tables[3], *words])
+
+
+def main():
+    parts = {}
+    for name, case in ("worked", WORKED), ("stopped", STOPPED):
+        bodies, answer, text, left = run(*case)
+        words = sum(bodies, [])
+        if name == "worked":
+            assert (POOL / "stdin").read_bytes() == struct.pack(f"<{len(words)}I", *words)
+            assert (POOL / "stdout").read_text() == text
+        parts |= {name: listed(bodies), f"{name}_answer": answer, f"{name}_text": text.replace("\n", "\\n")}
+        parts |= {f"{name}_length": len(words), f"{name}_left": left}
+    fewest = 12 + 384 + 128 + 256 + 3 * 2304
+    print(FILE.substitute(parts, nothing=listed(sheet([[]] * 6)), entries=ENTRIES, room=ROOM, fewest=fewest), end="")
+
+
+if __name__ == "__main__":
+    main()
