@@ -69,6 +69,57 @@ BROKEN = {
     "equal masks with own q only": ("*(p[i] for", "*(p[i] ^ masks[0][PREVIOUS[i]] for", "equal", 3),
     "equal uses masks again": ("[p], [q] = self.masked([p], [q])", "[p], _ = self.masked([p], [q])", "two rounds", 2),
 }
+# What parties apart cannot do: make a share of another party's, send words before they can be made, or let a share that
+# the sender doesn't have say who is sent a word, or when. Blind all the same: the counts agree, as on the right
+# protocols. Of each: pairs of text, each as in BROKEN; a session; and the values that the words which nobody uses go
+# through. There are such values where one of these words is sent in another's place; elsewhere the words are held.
+# (Each is a must-fail edit of the crate `protocols` too.)
+NOT_APART = {
+    "reshare adds miner 3's new share to miner 2's": (
+        [
+            (
+                "return fresh(s, *self.masks(1))",
+                "s = fresh(s, *self.masks(1))\n        return each({1: s[1], 2: s[2] + s[3], 3: 0}.get)",
+            )
+        ],
+        "reshared",
+        (),
+    ),
+    "bits sends u2 + r2 and u3 + r3 before r2 and r3": (
+        [
+            ("self.send(2, r2, bar2)", "self.send(2, (u[3] + r3) % WIDTH.ring, r2, bar2)"),
+            ("self.send(3, r3, bar3)", "self.send(3, (u[2] + r2) % WIDTH.ring, r3, bar3)"),
+            ("self.send(3, v2)", "pass"),
+            ("self.send(2, v3)", "pass"),
+        ],
+        "bits",
+        (),
+    ),
+    "equal sends its last q back where miner 1's share is odd": (
+        [
+            (
+                "[p], [q] = self.masked([p], [q])",
+                "back, ([p], [q]) = k + 1 == WIDTH.rounds and p[1] % 2, self.masked([p], [q])\n"
+                "            for i in MINERS if back else ():\n"
+                "                self.received[i][-1] = q[NEXT[i]]",
+            )
+        ],
+        "two rounds",
+        (0, 1),
+    ),
+    "equal sends miner 2 its last words by miner 1's share": (
+        [
+            (
+                "return self.bit(p, 0)",
+                "shares, words = self.bit(p, 0), self.received[2]\n"
+                "        words[-2:] = reversed(words[-2:]) if p[1] % 2 else words[-2:]\n"
+                "        return shares",
+            )
+        ],
+        "equal",
+        (),
+    ),
+}
 
 
 def parsed(text):
@@ -91,8 +142,9 @@ def fates(code, tape):
     return words
 
 
-def planned(commands, observer, tapes):
-    """The words of other tapes than the observer's, with the values that they go through; by step, the shares held."""
+def planned(commands, observer, tapes, unused):
+    """The words of other tapes than the observer's, with the values that they go through; by step, the shares held.
+    Words that nobody uses go through the values `unused`, all through the same ones, if there are any."""
     words, shares, drawn = [], {}, [0] * 4
     for step, (code, _, _, number) in enumerate(commands):
         for tape in {*range(4)} - {observer}:
@@ -104,7 +156,7 @@ def planned(commands, observer, tapes):
         for word in words:
             if word.fate in kinds and many():
                 sampled = tapes[word.tape][word.at]
-                word.values = (sampled, sampled ^ 1) if kinds == "bc" else (sampled,)
+                word.values = {"-": unused, "bc": (sampled, sampled ^ 1)}.get(kinds) or (sampled,)
     for word in words:
         if observer == 3 and word.tape == PROVIDER and word.fate == "1" and many():
             shares[word.step] = next(SAMPLES) % WIDTH.ring
@@ -143,7 +195,7 @@ def together(observer, states):
     return merged.values()
 
 
-def counted(name, observer, kind=Machine):
+def counted(name, observer, kind=Machine, unused=()):
     """For each input list of a session how often each record comes up, and the number of words held."""
     _, n, text, inputs = SESSIONS[name]
     set_width(n)
@@ -152,7 +204,7 @@ def counted(name, observer, kind=Machine):
     drawn, space = ([sum(row[column][party] for row in rows) for party in range(4)] for column in (5, 4))
     # one word more on each tape, so that a command can be refused for its received words alone
     tapes = [[next(SAMPLES) % WIDTH.ring for _ in range(count + 1)] for count in drawn]
-    words, shares = planned(commands, observer, tapes)
+    words, shares = planned(commands, observer, tapes, unused)
     for given in inputs:
         case = lend(name, commands, room=sum(row[3] > 0 for row in rows), inputs=given, tapes=tapes, space=space)
         states, count = [(kind(case.lists, case.place), (), 1)], Counter()
@@ -176,14 +228,28 @@ def right():
                 yield what, held, counts[0], counts[at], observer in MINERS or at == 1
 
 
+def changed(pairs):
+    """The machine on protocols of which some text is replaced."""
+    source, names = inspect.getsource(protocol_vectors.Run), dict(vars(protocol_vectors))
+    for old, new in pairs:
+        assert source.count(old) == 1
+        source = source.replace(old, new)
+    exec(source, names)
+    return type("Changed", (Machine,), {"protocols": names["Run"]})
+
+
+def not_apart():
+    """The same for the protocols that parties apart cannot do, for each observer of the session."""
+    for what, (pairs, name, unused) in NOT_APART.items():
+        for observer in SESSIONS[name][0]:
+            (one, other, *_), held = counted(name, observer, changed(pairs), unused)
+            yield f"not apart, {what}: {OBSERVERS[observer]}", held, one, other, True
+
+
 def broken():
     """The same for the protocols with one thing wrong."""
-    source = inspect.getsource(protocol_vectors.Run)
     for what, (old, new, name, observer) in BROKEN.items():
-        names = dict(vars(protocol_vectors))
-        assert source.count(old) == 1
-        exec(source.replace(old, new), names)
-        (one, other, *_), held = counted(name, observer, type("Broken", (Machine,), {"protocols": names["Run"]}))
+        (one, other, *_), held = counted(name, observer, changed([(old, new)]))
         yield f"broken, {what}: {OBSERVERS[observer]}", held, one, other, False
         if name == "products":  # where no word is held: the received words have to be in the record
             thinned = [sum((Counter({seen[1:]: n}) for seen, n in count.items()), Counter()) for count in (one, other)]
@@ -191,7 +257,7 @@ def broken():
 
 
 if __name__ == "__main__":
-    for checks, (what, held, one, other, alike) in enumerate(itertools.chain(right(), broken()), 1):
+    for checks, (what, held, one, other, alike) in enumerate(itertools.chain(right(), broken(), not_apart()), 1):
         if (one == other) != alike:
             sys.exit(f"blindness_counts: {what}: the counts {'differ' if alike else 'agree'}")
         contents = f"{one.total()} contents" + f" (words held: {held})" * (held > 0)

@@ -15,7 +15,8 @@ SUMS = pathlib.Path(__file__).resolve().parent / 'claims.sums'
 # What claims are made of, beside the engine itself, which the contracts hold to the code.
 PARTS = [
     'protocols/specs/Shares.antt', 'protocols/specs/Blind.antt', 'protocols/specs/Contents.antt',
-    'protocols/specs/Counts.antt', 'machine/specs/Lent.antt', 'machine/specs/Pairing.antt',
+    'protocols/specs/Counts.antt', 'protocols/specs/Parties.antt', 'protocols/specs/Own.antt',
+    'protocols/specs/Alone.antt', 'machine/specs/Lent.antt', 'machine/specs/Pairing.antt',
     'machine/specs/Records.antt', 'machine/specs/Refusals.antt', 'session/specs/Refusals.antt',
 ]
 MARKER = re.compile(r'\s*-- promised by `(\w+)`: \S')
@@ -122,7 +123,8 @@ def check(crate):
     for name in promises:
         if name not in told:
             say(f'`{name}` of src/promises.rt promises no claim of specs/')
-    check_cited(TOP / crate / 'specs' / 'Claims.antt', [statement for _, statement in claims], say)
+    for path in ('Claims.antt', 'Apart.antt'):
+        check_cited(TOP / crate / 'specs' / path, [statement for _, statement in claims], say)
     return missing, len(claims)
 
 

@@ -82,6 +82,9 @@ class Run:
             self.send(i, shares[i])
         return shares
 
+    def reshare(self, s):
+        return fresh(s, *self.masks(1))
+
     def open(self, s):
         shares = fresh(s, *self.masks(1))
         self.send(CONTROLLER, shares[1], shares[2], shares[3])
@@ -166,7 +169,7 @@ COMMANDS = {
     "add constant": ("uw", lambda run, u, v, w: {**u, 1: (u[1] + w) % WIDTH.ring}, [0, 0, 0, 0], [0, 0, 0, 0]),
     "times constant": ("uw", lambda run, u, v, w: each(lambda i: u[i] * w), [0, 0, 0, 0], [0, 0, 0, 0]),
     "multiply": ("uv", lambda run, u, v, w: run.multiply(u, v), [4, 4, 4, 0], [0, 2, 2, 2]),
-    "reshare": ("u", lambda run, u, v, w: fresh(u, *run.masks(1)), [1, 1, 1, 0], [0, 1, 1, 1]),
+    "reshare": ("u", lambda run, u, v, w: run.reshare(u), [1, 1, 1, 0], [0, 1, 1, 1]),
     "bits": ("u", lambda run, u, v, w: run.bits(u), [22, 25, 25, 0], [0, 15, 12, 12]),
     "bit": ("uw", lambda run, u, v, w: run.bit(u, w), [0, 3, 3, 0], [0, 3, 0, 0]),
     "equal": ("uv", lambda run, u, v, w: run.equal(u, v), [11, 15, 15, 0], [0, 10, 6, 6]),

@@ -21,6 +21,7 @@ pub mod Supplied
 pub mod Accept
 pub mod Step
 pub mod Blind
+pub mod Apart
 pub mod Sound
 pub mod Threes
 pub mod RunTurns

@@ -1,13 +1,12 @@
 -- What is lent to a command. (01, 'Handles, tapes and places')
 use Rattle.std.specs.Prelude.{ℕ, ◌≡◌, ◌-◌, ◌≤◌, List, length, get_or, take}
 use Rattle.protocols.specs.declared.place.Drawn.{Drawn}
-use Rattle.protocols.specs.declared.place.Received.{Received}
 use Rattle.protocols.specs.declared.place.Party.{Party}
 use Rattle.protocols.specs.declared.place.Place.{Place}
 use Rattle.protocols.specs.declared.shares.Shares.{Shares}
 use Rattle.protocols.specs.Shares.{Miner, one, two, three, shares}
 use Rattle.protocols.specs.Place.{Tapes, tape, counts, Lists, Receiver, list}
-use Rattle.protocols.specs.Counts.{received, due}
+use Rattle.protocols.specs.Counts.{list_lengths, due}
 use Rattle.protocols.specs.Contents.{Below}
 use Rattle.protocols.specs.declared.lent.Lists as code_lists
 use Rattle.protocols.specs.declared.lent.Tapes as code_tapes
@@ -61,9 +60,6 @@ SameTables a b =
 
 abbrev pub tape_lengths : Tapes → Drawn
 tape_lengths t = counts (length t.provider) (length t.one) (length t.two) (length t.three)
-
-abbrev pub list_lengths : Lists → Received
-list_lengths r = received (length r.one) (length r.two) (length r.three) (length r.controller)
 
 -- the tapes' lengths are d
 abbrev pub lengths : Tables → List ℕ → List ℕ → Drawn → Lists → Sizes

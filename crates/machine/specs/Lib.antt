@@ -14,3 +14,4 @@ pub mod Pairing
 pub mod Refusals
 pub mod WorkedRuns
 pub mod Claims
+pub mod Apart

@@ -1,14 +1,17 @@
 // What this crate promises of every command and of every run. Each function is one claim, proved as its contract: its
 // body is empty, since what it ensures is a fact about the definitions that the contracts of `command` and `run` cite.
 // docs/CLAIMS.md explains each.
-ghost use Rattle.std.specs.Prelude.{ℕ, ◌^◌, List};
+ghost use Rattle.std.specs.Prelude.{ℕ, ◌≡◌, ◌^◌, Bool, List};
+ghost use Rattle.protocols.specs.declared.place.Party.{Party};
 ghost use Rattle.protocols.specs.declared.place.Place.{Place};
 ghost use Rattle.protocols.specs.Word.{modulus};
 ghost use Rattle.protocols.specs.Shares.{Miner};
 ghost use Rattle.machine.specs.declared.code.Command.{Command};
-ghost use Rattle.machine.specs.Lent.{Lent, AreWords};
+ghost use Rattle.machine.specs.declared.lent.Sizes.{Sizes};
+ghost use Rattle.machine.specs.Lent.{Lent, sizes, AreWords};
 ghost use Rattle.machine.specs.Run.{Ran, run_to_refusal};
 ghost use Rattle.machine.specs.Claims as claims;
+ghost use Rattle.machine.specs.Apart.{Apart, RunsApart, SameView, MixedRuns};
 ghost use Rattle.machine.specs.WorkedRuns.{WorkedRuns};
 
 // Each code word names its command, and each command has its line of the table.
@@ -85,6 +88,25 @@ pub fn miner_records()
 // Equal records of the controller are equal in all that the controller has after a run.
 pub fn controller_records()
     ensures { (r r' : Ran) → claims.ControllerRecords r r' }
+{}
+
+// A provider and three miners, each on what it has, come to every run, past refusals and up to the first refused
+// command.
+pub fn runs_apart()
+    ensures { (n : ℕ) (cs : List Command) (p : Place) (z : Sizes) (k : List ℕ) → RunsApart n cs p z k }
+{}
+
+// What a miner has after a run by parties apart is settled by its table, its tape and its received list.
+pub fn same_view()
+    ensures { (runs : Place → Lent → Ran) (p : Place) (z : Sizes) (k : List ℕ)
+        → Apart runs p z k → SameView runs p z k }
+{}
+
+// Of runs by parties apart: where two leave the same received lists, so does each run that is mixed of the two.
+pub fn mixed_runs()
+    ensures { (runs : Place → Lent → Ran) (p : Place) (z : Sizes) (k : List ℕ) → Apart runs p z k
+        → (l l' : Lent) → sizes l ≡ z → sizes l' ≡ z → l.kinds ≡ k → l'.kinds ≡ k
+        → (first : Party → Bool) → MixedRuns runs p l l' first }
 {}
 
 // The protocol of an accepted command is done, never spent.

@@ -19,5 +19,6 @@ pub mod RingCombine
 pub mod BitsCombine
 pub mod Blind
 pub mod Counts
+pub mod Apart
 pub mod Transcripts
 pub mod Worked

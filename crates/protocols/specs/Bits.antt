@@ -9,7 +9,7 @@ use Rattle.protocols.specs.Place.{Tapes, counts, word, words, to_next, to_two_th
 use Rattle.protocols.specs.Protocol.{Protocol, locally, ◌then◌, repeated}
 use Rattle.protocols.specs.Masked.{masked, and_share}
 
--- ---- lines 1 to 3 and 6 to 11: the dealing
+-- ---- lines 1 to 3, and the sums of line 6: the dealing
 
 -- 'miner 1 draws r, r2, R2; r3 = u1 - r - r2; R3 = r xor R2'
 abbrev pub r₃ : ℕ → Shares → Tapes → ℕ
@@ -25,14 +25,9 @@ v₂ m u t = add m u.two (word t one 1)
 abbrev pub v₃ : ℕ → Shares → Tapes → ℕ
 v₃ m u t = add m u.three (r₃ m u t)
 
--- lines 8 to 11: 'v is the sum. Shares of p: 0, v xor R2, R3. Shares of s: 0, v and R2, v and R3'
-abbrev pub start : ℕ → ℕ → ℕ → ℕ → ℕ → Dealt
-start m v₂ v₃ R₂ R₃ =
-    let v = add m v₂ v₃ in
-    record { p = shares 0 (bit_xor v R₂) R₃; s = shares 0 (bit_and v R₂) (bit_and v R₃); v2 = v₂; v3 = v₃ }
-
+-- what miners 2 and 3 have then, each its own: the share masked with r_i, and R_i
 abbrev pub dealt : ℕ → Shares → Tapes → Dealt
-dealt m u t = start m (v₂ m u t) (v₃ m u t) (word t one 2) (R₃ t)
+dealt m u t = record { v2 = v₂ m u t; v3 = v₃ m u t; bar2 = word t one 2; bar3 = R₃ t }
 
 -- 'Miners 2 and 3 receive r_i, then R_i'
 unfoldable pub deal : ℕ → Protocol Shares Dealt
@@ -42,15 +37,28 @@ deal n = record {
   received = λ u t. to_two_three (word t one 1) (r₃ (modulus n) u t) followed_by to_two_three (word t one 2) (R₃ t);
 }
 
+-- ---- lines 4 to 11, but for the sums of line 6: the exchange
+
+-- the sum of the words exchanged: u - r
+abbrev pub opened : ℕ → Dealt → ℕ
+opened m d = add m d.v2 d.v3
+
+-- shares of its exclusive or with r, and of its 'and' with r
+abbrev pub p₀ : ℕ → Dealt → Shares
+p₀ m d = shares 0 (bit_xor (opened m d) d.bar2) d.bar3
+
+abbrev pub s₀ : ℕ → Dealt → Shares
+s₀ m d = shares 0 (bit_and (opened m d) d.bar2) (bit_and (opened m d) d.bar3)
+
 -- what the miners hold before the first round, with its masks; p as it is now is taken up again at the end
-abbrev pub begun : Dealt → Shares → Shares → Held
-begun d q t = record { p = d.p; s = d.s; q = q; t = t; base = d.p }
+abbrev pub begun : ℕ → Dealt → Shares → Shares → Held
+begun m d q t = record { p = p₀ m d; s = s₀ m d; q = q; t = t; base = p₀ m d }
 
 -- lines 4 and 6: 'Each miner draws q, t and sends them on. Miners 2 and 3 exchange u_i + r_i'
-unfoldable pub exchange : Protocol Dealt Held
-exchange = record {
+unfoldable pub exchange : ℕ → Protocol Dealt Held
+exchange n = record {
   draws = counts 0 2 2 2;
-  result = λ d t. begun d (words t 0) (words t 1);
+  result = λ d t. begun (modulus n) d (words t 0) (words t 1);
   received = λ d t. to_next (words t 0) followed_by to_next (words t 1) followed_by to_two_three d.v3 d.v2;
 }
 
@@ -99,7 +107,7 @@ round n k = record {
 
 -- the dealing and the first k rounds
 unfoldable pub rounds : ℕ → ℕ → Protocol Shares Held
-rounds n = repeated (deal n then exchange) (round n)
+rounds n = repeated (deal n then exchange n) (round n)
 
 -- ---- lines 23 to 27: 's shifted up by one, combined by exclusive or with 0, v xor R2, R3'
 

@@ -4,13 +4,17 @@ use Rattle.protocols.specs.declared.place.Drawn.{Drawn}
 use Rattle.protocols.specs.declared.place.Received.{Received}
 use Rattle.protocols.specs.declared.place.Place.{Place}
 use Rattle.protocols.specs.Shares.{one, two, three}
-use Rattle.protocols.specs.Place.{Tapes, Receiver, miner, controller, list}
+use Rattle.protocols.specs.Place.{Tapes, Lists, Receiver, miner, controller, list}
 use Rattle.protocols.specs.Protocol.{Protocol}
 use Rattle.protocols.specs.Contents.{Words, Contents}
 
 -- counts of received words: miners 1 to 3, controller
 abbrev pub received : ℕ → ℕ → ℕ → ℕ → Received
 received a b c d = record { one = a; two = b; three = c; controller = d }
+
+-- how many words each list has
+abbrev pub list_lengths : Lists → Received
+list_lengths l = received (length l.one) (length l.two) (length l.three) (length l.controller)
 
 -- added up
 abbrev pub plus_received : Received → Received → Received

@@ -20,6 +20,10 @@ pub mod Outcome
 pub mod Lent
 pub mod Blind
 pub mod WordForm
+pub mod Parties
+pub mod Own
+pub mod Alone
 pub mod Worked
 pub mod Claims
+pub mod Apart
 pub mod Printed

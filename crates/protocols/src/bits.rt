@@ -18,13 +18,13 @@ use super::place::Place;
 use super::shares::Shares;
 use super::{list, masked, ring};
 
-// What the dealing leaves: shares of p and s, and the words that miners 2 and 3 exchange.
+// What the dealing leaves miners 2 and 3: the words that they exchange, and R2 and R3 (`bar2`, `bar3`).
 #[derive(Clone, Copy)]
 pub struct Dealt {
-    pub p: Shares,
-    pub s: Shares,
     pub v2: u32,
     pub v3: u32,
+    pub bar2: u32,
+    pub bar3: u32,
 }
 
 // What the miners hold before a round: p and s, its masks q and t, and the shares that the result takes up again.
@@ -99,28 +99,16 @@ fn carried(round: Round, p: Shares, s: Shares, q: Shares, t: Shares, base: Share
     }
 }
 
-// Shares of p and s from what miner 1 dealt.
-fn start(v2: u32, v3: u32, bar2: u32, bar3: u32) -> Dealt
-    ensures { result ≡ spec.start (modulus 5) v2 v3 bar2 bar3 }
-{
-    let v = ring::add(v2, v3);
-    Dealt {
-        p: Shares::from([0, v ^ bar2, bar3]),
-        s: Shares::from([0, v & bar2, v & bar3]),
-        v2,
-        v3,
-    }
-}
-
 // What the miners hold before the first round, with its masks.
 fn begun(dealt: Dealt, q: Shares, t: Shares) -> Held
-    ensures { result ≡ spec.begun dealt q t }
+    ensures { result ≡ spec.begun (modulus 5) dealt q t }
 {
-    let p = dealt.p;
-    let s = dealt.s;
+    let Dealt { v2, v3, bar2, bar3 } = dealt;
+    let v = ring::add(v2, v3);
+    let p = Shares::from([0, v ^ bar2, bar3]);
     Held {
         p,
-        s,
+        s: Shares::from([0, v & bar2, v & bar3]),
         q,
         t,
         base: p,
@@ -135,18 +123,23 @@ fn joined(h: Held) -> Shares
     h.s.zip(h.base, |s, base| (s << 1) ^ base)
 }
 
-// The dealing, with the masks of the first round sent on. (bar2, bar3 are document 01's R2, R3.)
+// The dealing and the exchange, with the masks of the first round sent on.
 #[tactic(auto, unfolding(crate::specs::Bits::deal))]
 fn deal(u: Shares, words: &[u32; 3], q: Shares, t: Shares, lists: &mut Lists) -> Held
     requires { Room 22 25 25 (lists_of lists.old) }
     ensures same { Same lists.old lists.new }
     ensures room { Room 22 25 25 (lists_of lists.new) }
-    ensures dealt { let w = tapes [] words.now [] [] in let d = (spec.deal 5).result u w in (result ≡ spec.begun d q t) × (lists_of lists.new ≡ fronts (lists_of lists.old) ((spec.deal 5).received u w followed_by to_next q followed_by to_next t followed_by to_two_three d.v3 d.v2)) }
+    ensures dealt { let w = tapes [] words.now [] [] in let d = (spec.deal 5).result u w in (result ≡ spec.begun (modulus 5) d q t) × (lists_of lists.new ≡ fronts (lists_of lists.old) ((spec.deal 5).received u w followed_by to_next q followed_by to_next t followed_by to_two_three d.v3 d.v2)) }
 {
     let [r, r2, bar2] = *words;
     let r3 = ring::sub(ring::sub(u.one, r), r2);
     let bar3 = r ^ bar2;
-    let dealt = start(ring::add(u.two, r2), ring::add(u.three, r3), bar2, bar3);
+    let dealt = Dealt {
+        v2: ring::add(u.two, r2),
+        v3: ring::add(u.three, r3),
+        bar2,
+        bar3,
+    };
     list::put(lists.one, 0, &[q.three, t.three]);
     list::put(lists.two, 0, &[r2, bar2, q.one, t.one, dealt.v3]);
     list::put(lists.three, 0, &[r3, bar3, q.two, t.two, dealt.v2]);

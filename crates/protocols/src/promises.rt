@@ -1,16 +1,21 @@
 // What this crate promises of the protocols as a whole: each claim is the contract of a function, so that it is proved
-// wherever this crate is. There is nothing to run in them. (The statements, part by part, are in specs/Claims.antt and
-// specs/Worked.antt.)
-ghost use Rattle.std.specs.Prelude.{◌≡◌, ℕ, ◌<◌, List};
+// wherever this crate is. There is nothing to run in them. (The statements, part by part, are in specs/Claims.antt,
+// specs/Apart.antt and specs/Worked.antt.)
+ghost use Rattle.std.specs.Prelude.{◌≡◌, ℕ, ◌<◌, cond, List};
 ghost use Rattle.protocols.specs.declared.place.Party.{Party};
+ghost use Rattle.protocols.specs.declared.place.Party.TheVariants.{Provider};
 ghost use Rattle.protocols.specs.declared.place.Place.{Place};
 ghost use Rattle.protocols.specs.declared.shares.Shares.{Shares};
 ghost use Rattle.protocols.specs.Word.{bit_at};
-ghost use Rattle.protocols.specs.Shares.{Operands};
+ghost use Rattle.protocols.specs.Shares.{Operands, at};
 ghost use Rattle.protocols.specs.Place.{Tapes, Lists};
 ghost use Rattle.protocols.specs.Protocol.{Protocol};
 ghost use Rattle.protocols.specs.Blind.{Observer};
 ghost use Rattle.protocols.specs.Claims.{RingCombines, BitsCombine, Table, TableAt32, BlindProtocols, WordForms, SourceIs, DrawIs, OnTapes, Delivers, Transcripts};
+ghost use Rattle.protocols.specs.Parties.{Process, PlayedApart};
+ghost use Rattle.protocols.specs.Own.{share, pair, input};
+ghost use Rattle.protocols.specs.Apart.{ProtocolsApart, ByItself, SameView, MixedRuns, NoMagic};
+ghost use Rattle.protocols.specs.Apart.{mixed_shares, mixed_operands};
 ghost use Rattle.protocols.specs.Worked.{Worked};
 
 // Whatever is drawn, the new shares of every ring protocol add up to the right word.
@@ -70,6 +75,42 @@ pub fn delivers()
 // The words that each party receives, written out in the order in which they come.
 pub fn transcripts()
     ensures { (m : ℕ) → Transcripts m }
+{}
+
+// Every protocol is played by a provider and three miners, each on what it alone has.
+pub fn protocols_apart()
+    ensures { (n : ℕ) → ProtocolsApart n }
+{}
+
+// What connected processes come to is settled by what each does by itself, on its received words; of processes that end
+// with a word, and with a table.
+pub fn by_itself()
+    ensures of_words { (r : ℕ) (p : Party → Process r ℕ) → ByItself ℕ r p }
+    ensures of_tables { (r : ℕ) (p : Party → Process r (List ℕ)) → ByItself (List ℕ) r p }
+{}
+
+// What a miner has after a protocol that is played apart is settled by what it had, drew and received; of an input, of
+// a value's shares and of two values' shares.
+pub fn same_view()
+    ensures of_input { (f : Protocol ℕ Shares) → PlayedApart f input share → SameView f (λ i v v'. Unit {0}) }
+    ensures of_shares { (f : Protocol Shares Shares) → PlayedApart f share share
+        → SameView f (λ i s s'. at i s ≡ at i s') }
+    ensures of_operands { (f : Protocol Operands Shares) → PlayedApart f pair share
+        → SameView f (λ i x x'. (at i x.u ≡ at i x'.u) × (at i x.v ≡ at i x'.v)) }
+{}
+
+// Of a protocol that is played apart: where two runs deliver the same words, so does each run mixed of the two; of an
+// input, of a value's shares and of two values' shares.
+pub fn mixed_runs()
+    ensures of_input { (f : Protocol ℕ Shares) → PlayedApart f input share
+        → MixedRuns f (λ first v v'. cond (first Provider) v v') }
+    ensures of_shares { (f : Protocol Shares Shares) → PlayedApart f share share → MixedRuns f mixed_shares }
+    ensures of_operands { (f : Protocol Operands Shares) → PlayedApart f pair share → MixedRuns f mixed_operands }
+{}
+
+// A miner that has another's share with no word sent is not played apart.
+pub fn no_magic()
+    ensures { NoMagic }
 {}
 
 // The cases that were reckoned by hand.

@@ -16,5 +16,6 @@ pub mod RunLines
 pub mod Report
 pub mod EntryOne
 pub mod EntryTwo
+pub mod Apart
 pub mod Worked
 pub mod WorkedBlindness

@@ -7,4 +7,5 @@ pub mod Writing
 pub mod Refusals
 pub mod Worked
 pub mod Claims
+pub mod Apart
 pub mod WorkedBlindness

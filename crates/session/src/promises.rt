@@ -4,8 +4,10 @@ ghost use Rattle.std.specs.Prelude.{ℕ, ◌≡◌, ◌<◌, ◌^◌, List, leng
 ghost use Rattle.protocols.specs.declared.place.Drawn.{Drawn};
 ghost use Rattle.protocols.specs.Contents.{Below as AllBelow};
 ghost use Rattle.machine.specs.declared.code.Command.{Command};
+ghost use Rattle.machine.specs.declared.lent.Sizes.{Sizes};
 ghost use Rattle.session.specs.Session.{State};
 ghost use Rattle.session.specs.Claims.{Taken, Entry1, Entry2, Entry3, Decimal};
+ghost use Rattle.session.specs.Apart.{SessionApart};
 ghost use Rattle.session.specs.Worked.{WorkedSession};
 ghost use Rattle.session.specs.WorkedBlindness.{WorkedBlindness};
 
@@ -31,6 +33,11 @@ pub fn entry_3()
 // Numbers are printed in decimal: the digits spell the number, and none is a zero in front.
 pub fn decimal()
     ensures { (n : ℕ) → n < 2 ^ 64 → Decimal n }
+{}
+
+// Of any commands, lengths and kinds: a provider and three miners, each on what it has, come to every session of these.
+pub fn session_apart()
+    ensures { (cs : List Command) (z : Sizes) (k : List ℕ) → SessionApart cs z k }
 {}
 
 // Of one worked session, in lists of words alone: no miner can tell its inputs from others, nor the controller from

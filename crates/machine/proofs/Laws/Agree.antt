@@ -19,6 +19,7 @@ use Rattle.protocols.specs.Shares.{Miner, one, at, each, AreWords as AreWordsOf,
 use Rattle.protocols.specs.Place.{Tapes, Lists, Receiver, controller, list, count, block}
 use Rattle.protocols.specs.Contents.{Below as AllBelow, Contents}
 use Rattle.protocols.specs.Counts.{received, due}
+use Rattle.protocols.proofs.Laws.Counts.{due-list_lengths}
 use Rattle.protocols.proofs.Laws.Blocks.{block_contents}
 use Rattle.machine.specs.declared.code.Code.{Code}
 use Rattle.machine.specs.declared.code.Code.TheVariants.{Store, Add, Subtract, AddConstant, TimesConstant, Multiply, Reshare, Bits, Bit, Equal, Open, Below}
@@ -44,7 +45,7 @@ use Rattle.machine.proofs.Laws.Rows.{values_at_most_1, same_code, opens-at_11}
 use Rattle.machine.specs.Refusal.{number as refusal_number}
 use Rattle.machine.proofs.Laws.Rows.{numbered}
 use Rattle.machine.proofs.Laws.Judge.{is_filled, same-lengths, judge-same}
-use Rattle.machine.proofs.Laws.Entries.{get_or-up_to, up_to-same, entry-set_old, entry-set_new, get_or-put, length-put, table-with_shares, sets_appended, list-with_words, due-list_lengths, count-plus, due-moved, below-get_or, shares_are_words, below_put, below-sets}
+use Rattle.machine.proofs.Laws.Entries.{get_or-up_to, up_to-same, entry-set_old, entry-set_new, get_or-put, length-put, table-with_shares, sets_appended, list-with_words, count-plus, due-moved, below-get_or, shares_are_words, below_put, below-sets}
 
 -- ---- registers of filled handles, and the operands' words
 

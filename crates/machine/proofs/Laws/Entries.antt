@@ -19,7 +19,7 @@ use Rattle.protocols.specs.Contents.{Below}
 use Rattle.protocols.specs.Counts.{due}
 use Rattle.machine.specs.declared.row.Row.{Row}
 use Rattle.machine.specs.Table.{moved}
-use Rattle.machine.specs.Lent.{Tables, Lent, table, list_lengths, entry, shares_at, Filled, filled_shares}
+use Rattle.machine.specs.Lent.{Tables, Lent, table, entry, shares_at, Filled, filled_shares}
 use Rattle.protocols.proofs.Laws.Blocks.{below-append}
 use Rattle.machine.specs.Command.{put, with_shares, with_words}
 use Rattle.machine.specs.Start.{up_to}
@@ -94,12 +94,6 @@ list-with_words (miner one) l p s = refl
 list-with_words (miner two) l p s = refl
 list-with_words (miner three) l p s = refl
 list-with_words controller l p s = refl
-
-pub due-list_lengths : (r : Receiver) (l : Lists) → due r (list_lengths l) ≡ length (list r l)
-due-list_lengths (miner one) l = refl
-due-list_lengths (miner two) l = refl
-due-list_lengths (miner three) l = refl
-due-list_lengths controller l = refl
 
 pub count-plus : (i : Party) (a b : Drawn) → count i (plus a b) ≡ count i a + count i b
 count-plus Provider a b = refl

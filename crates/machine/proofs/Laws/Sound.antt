@@ -12,6 +12,7 @@ use Rattle.protocols.specs.declared.place.Party.TheVariants.{Provider, One, Two,
 use Rattle.protocols.specs.Shares.{Miner, one, two, three}
 use Rattle.protocols.specs.Place.{count, miner, controller}
 use Rattle.protocols.specs.Counts.{due}
+use Rattle.protocols.proofs.Laws.Counts.{due-list_lengths}
 use Rattle.machine.specs.declared.code.Command.{Command}
 use Rattle.machine.specs.declared.code.Code.{Code}
 use Rattle.machine.specs.declared.kind.Kind.{Kind}
@@ -29,7 +30,7 @@ use Rattle.machine.proofs.Laws.Accepted.{all_passed, Room, has_room}
 use Rattle.machine.proofs.Laws.Rows.{values_at_most_1}
 use Rattle.machine.proofs.Laws.Refusals.{bounds, test_4}
 use Rattle.machine.proofs.Laws.Judge.{same-lengths}
-use Rattle.machine.proofs.Laws.Entries.{entry-set_old, entry-set_new, due-list_lengths, due-moved}
+use Rattle.machine.proofs.Laws.Entries.{entry-set_old, entry-set_new, due-moved}
 use Rattle.machine.proofs.Laws.Steps.{count-lengths}
 use Rattle.machine.proofs.Laws.Blind.Public.{place_after, kinds_after, command_public}
 

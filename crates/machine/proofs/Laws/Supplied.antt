@@ -13,7 +13,8 @@ use Rattle.protocols.specs.declared.shares.Shares.{Shares}
 use Rattle.protocols.specs.Shares.{one, two, three}
 use Rattle.protocols.specs.Place.{Tapes, tape, Lists, Receiver, miner, controller, list, count, advance, block}
 use Rattle.protocols.specs.Protocol.{Protocol, Answer, done, perform}
-use Rattle.protocols.specs.Counts.{due}
+use Rattle.protocols.specs.Counts.{list_lengths, due}
+use Rattle.protocols.proofs.Laws.Counts.{due-list_lengths}
 use Rattle.protocols.specs.declared.outcome.Shortage.{Shortage}
 use Rattle.protocols.specs.declared.outcome.Shortage.TheVariants.{TapeSpent, ListFull}
 use Rattle.protocols.specs.Outcome.{number, finished, refused, delivered, delivery, fronts}
@@ -25,14 +26,13 @@ use Rattle.machine.specs.declared.code.Command.{Command}
 use Rattle.machine.specs.declared.given.Given.{Given}
 use Rattle.machine.specs.Refusal as table
 use Rattle.machine.specs.Table.{row}
-use Rattle.machine.specs.Lent.{Lent, tape_lengths, list_lengths, sizes}
+use Rattle.machine.specs.Lent.{Lent, tape_lengths, sizes}
 use Rattle.machine.specs.Verdict.{Verdict, Accepted, Refused, tapes_have, lists_have, supplied}
 use Rattle.machine.specs.Steps.{protocol}
 use Rattle.machine.specs.Command.{given}
 use Rattle.machine.specs.Accept.{Begun, unfilled}
 use Rattle.machine.proofs.Laws.Tests.{Decides, holds, fails, some_tape, some_list}
 use Rattle.machine.proofs.Laws.Steps.{count-lengths, steps_counted, performs}
-use Rattle.machine.proofs.Laws.Entries.{due-list_lengths}
 
 -- each list is as long as the place has it filled
 begun-list : {x : Code} {c : Command} {p : Place} {l : Lent} → Begun x c p l → (r : Receiver) → due r p.received ≤ length (list r l.received)

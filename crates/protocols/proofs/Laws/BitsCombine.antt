@@ -13,7 +13,7 @@ use Rattle.protocols.specs.Protocol.{◌then◌}
 use Rattle.protocols.specs.Local.{difference}
 use Rattle.protocols.specs.Masked.{masked}
 use Rattle.protocols.specs.Bit.{bits_at, b, m₁₂, b₁₂, s₂₃, s₃₂, chosen, bit}
-use Rattle.protocols.specs.Bits.{round_s, round_p, v₂, v₃, deal, exchange, round, rounds, bits}
+use Rattle.protocols.specs.Bits.{round_s, round_p, dealt, opened, deal, exchange, round, rounds, bits}
 use Rattle.protocols.specs.Equal.{compared, compare, begin, fold_share, fold, folds, equal}
 use Rattle.protocols.specs.Below.{below}
 use Rattle.protocols.specs.Contents.{Contents}
@@ -131,10 +131,10 @@ module _ (n : ℕ) where
   -- ---- Bits
 
   -- the opened word v and the drawn word r
-  opened-sum : (u : Shares) (t : Tapes) → add m (add m (v₂ m u t) (v₃ m u t)) (word t one 0) ≡ sum_of m u
+  opened-sum : (u : Shares) (t : Tapes) → add m (opened m (dealt m u t)) (word t one 0) ≡ sum_of m u
   opened-sum u t =
       let r = word t one 0 in
-      let v = add m (v₂ m u t) (v₃ m u t) in
+      let v = opened m (dealt m u t) in
       let (a, f) = sum_r m pos (shares (sub m u.one r) u.two u.three) in
       let (a', f') = sum_r m pos u in
       let (q, k, e) = sub_r m pos u.one r in
@@ -147,12 +147,12 @@ module _ (n : ℕ) where
   unfolding rounds ◌then◌ deal exchange round carry_p carry_s xor_of
   rounds_carry zero u t c =
       let t' = cut (counts 0 3 0 0) t in
-      let v = add m (v₂ m u t') (v₃ m u t') in
+      let v = opened m (dealt m u t') in
       record {
         v = v;
         r = word t' one 0;
-        v-word = add-lt m pos (v₂ m u t') (v₃ m u t');
-        r_word = word_lt t'.one 0 (contents_cut m (deal n).draws exchange.draws t c One) (omega arith);
+        v-word = add-lt m pos _ _;
+        r_word = word_lt t'.one 0 (contents_cut m (deal n).draws (exchange n).draws t c One) (omega arith);
         adds_up = opened-sum u t';
         p_is = xor_shared v (word t' one 0) (word t' one 2);
         s_is = and_shared v (word t' one 0) (word t' one 2);

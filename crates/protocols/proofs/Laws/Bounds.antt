@@ -1,8 +1,9 @@
 -- Shares and words that the steps make are words.
-use Rattle.std.proofs.Common.{ℕ, zero, suc, ◌^◌, ◌<◌, mod-lt, zero-lt-suc, arith}
-use lib.Bits.{bit_xor, xor_lt}
+use Rattle.std.proofs.Common.{ℕ, zero, suc, ◌^◌, ◌<◌, mod-lt, zero-lt-suc, arith, pow_pos}
+use lib.Bits.{bit_xor, xor_lt, and_lt}
 use Rattle.protocols.specs.declared.place.Party.TheVariants.{One, Two, Three}
 use Rattle.protocols.specs.declared.shares.Shares.{Shares}
+use Rattle.protocols.specs.declared.bits.Dealt.{Dealt}
 use Rattle.protocols.specs.Word.{add, mul, bit_at, low, choose}
 use Rattle.protocols.specs.Shares.{Miner, one, two, three, prev, at, each, shares, AreWords, Operands}
 use Rattle.protocols.specs.Place.{Tapes, word, words, counts}
@@ -11,6 +12,7 @@ use Rattle.protocols.specs.Reshare.{fresh}
 use Rattle.protocols.specs.Multiply.{product}
 use Rattle.protocols.specs.Masked.{masked}
 use Rattle.protocols.specs.Bit.{bits_at, b, b₁₂, b₁₃, s₂₃, s₃₂}
+use Rattle.protocols.specs.Bits.{dealt, opened, p₀, s₀}
 use Rattle.protocols.specs.Equal.{compared}
 use Rattle.protocols.specs.Contents.{Contents}
 use Rattle.protocols.proofs.Laws.Ring.{add-lt, sub-lt}
@@ -65,6 +67,37 @@ module _ (j : ℕ) (u : Shares) (t : Tapes) where
 
   pub s₃₂-lt : s₃₂ (bits_at j u) t < 2
   s₃₂-lt = xor_lt 1 (b₁₃ t) (bit_at u.three j) (b₁₃-lt t) (bit-lt u.three j)
+
+-- ---- Bits and Equal, on words of w bits
+
+-- what miners 2 and 3 hold after the dealing of Bits
+pub record DealtWords (m : ℕ) (d : Dealt) : Type 0 where
+  pub v2 : d.v2 < m
+  pub v3 : d.v3 < m
+  pub bar2 : d.bar2 < m
+  pub bar3 : d.bar3 < m
+
+module _ (w : ℕ) where
+  pub dealt-words : (u : Shares) (t : Tapes) → Contents (2 ^ w) (counts 0 3 0 0) t
+      → DealtWords (2 ^ w) (dealt (2 ^ w) u t)
+  dealt-words u t h =
+      let drawn : (k : ℕ) → k < 3 → word t one k < 2 ^ w = λ k. word_lt t.one k (h One) in
+      record {
+        v2 = add-lt (2 ^ w) (pow_pos w) _ _;
+        v3 = add-lt (2 ^ w) (pow_pos w) _ _;
+        bar2 = drawn 2 (omega arith);
+        bar3 = xor_lt w _ _ (drawn 0 (omega arith)) (drawn 2 (omega arith));
+      }
+
+  -- and the shares that they make of it
+  opened-lt : (d : Dealt) → opened (2 ^ w) d < 2 ^ w
+  opened-lt d = add-lt (2 ^ w) (pow_pos w) d.v2 d.v3
+
+  pub p₀-words : {d : Dealt} → DealtWords (2 ^ w) d → AreWords (2 ^ w) (p₀ (2 ^ w) d)
+  p₀-words {d} h = words-three (pow_pos w) (xor_lt w _ _ (opened-lt d) h.bar2) h.bar3
+
+  pub s₀-words : {d : Dealt} → DealtWords (2 ^ w) d → AreWords (2 ^ w) (s₀ (2 ^ w) d)
+  s₀-words {d} h = words-three (pow_pos w) (and_lt w _ _ (opened-lt d) h.bar2) (and_lt w _ _ (opened-lt d) h.bar3)
 
 pub masked-words : (w : ℕ) {p q : Shares} → AreWords (2 ^ w) p → AreWords (2 ^ w) q → AreWords (2 ^ w) (masked p q)
 masked-words w {p} {q} hp hq =

@@ -1,14 +1,13 @@
 -- What each protocol draws, delivers and makes: laws of Counted, and document 01's table.
-use Rattle.std.proofs.Common.{◌≡◌, ℕ, zero, suc, ◌+◌, ◌-◌, ◌*◌, ◌<◌, ◌≤◌, [], ◌∷◌, length, refl, ◌∙◌, ap₂, subst₂, lt_of_le_of_lt, arith, length-append, pow_pos, pow_mono}
-use lib.Bits.{bit_xor, xor_lt, and_le_l}
+use Rattle.std.proofs.Common.{◌≡◌, ℕ, zero, suc, ◌+◌, ◌-◌, ◌*◌, ◌<◌, ◌≤◌, [], ◌∷◌, length, refl, ◌∙◌, ap₂, subst₂, arith, length-append, pow_pos, pow_mono}
+use lib.Bits.{bit_xor, xor_lt}
 use Rattle.protocols.specs.declared.place.Party.TheVariants.{Provider, One}
 use Rattle.protocols.specs.declared.place.Drawn.{Drawn}
 use Rattle.protocols.specs.declared.place.Received.{Received}
 use Rattle.protocols.specs.declared.shares.Shares.{Shares}
-use Rattle.protocols.specs.declared.bits.Dealt.{Dealt}
 use Rattle.protocols.specs.declared.bits.Held.{Held}
 use Rattle.protocols.specs.declared.equal.Folding.{Folding}
-use Rattle.protocols.specs.Word.{width, modulus, add, sub, bit_at, up}
+use Rattle.protocols.specs.Word.{width, modulus, sub, bit_at, up}
 use Rattle.protocols.specs.Shares.{one, two, three, prev, at, AreWords}
 use Rattle.protocols.specs.Place.{Tapes, word, words, counts, plus, cut, rest, silence, ◌followed_by◌}
 use Rattle.protocols.specs.Place.{Lists, Receiver, miner, controller, list, to_next, to_two_three, to_each, to_controller}
@@ -19,16 +18,17 @@ use Rattle.protocols.specs.Reshare.{reshare}
 use Rattle.protocols.specs.Multiply.{masked_u, masked_v, multiply}
 use Rattle.protocols.specs.Masked.{masked}
 use Rattle.protocols.specs.Bit.{bits_at, b, m₁₂, m₁₃, s₂₃, s₃₂, bit}
-use Rattle.protocols.specs.Bits.{r₃, R₃, v₂, v₃, dealt, deal, exchange, round, rounds, joined, bits}
+use Rattle.protocols.specs.Bits.{deal, exchange, round, rounds, joined, bits}
 use Rattle.protocols.specs.Equal.{compare, begin, fold, folds, equal}
 use Rattle.protocols.specs.Open.{opening}
 use Rattle.protocols.specs.Below.{below}
 use Rattle.protocols.specs.Contents.{Words, Contents}
-use Rattle.protocols.specs.Counts.{received, plus_received, due, Counted}
+use Rattle.protocols.specs.Counts.{received, list_lengths, plus_received, due, Counted}
 use Rattle.protocols.specs.Claims.{OperandsAreWords, Table, TableAt32}
 use Rattle.protocols.proofs.Laws.Ring.{add-lt, sub-lt, mul-lt}
 use Rattle.protocols.proofs.Laws.Shared.{round_s-lt, round_p-lt, fold_share-lt, up_lt}
 use Rattle.protocols.proofs.Laws.Bounds.{words_of, words-three, drawn-words, fresh-words, difference-words, compared-words, product-words, choose_word, low-lt, b₁₃-lt, s₂₃-lt, s₃₂-lt, masked-words}
+use Rattle.protocols.proofs.Laws.Bounds.{DealtWords, dealt-words, p₀-words, s₀-words}
 use Rattle.protocols.proofs.Laws.Blocks.{words_append, word_lt, contents_cut, contents_rest}
 
 -- ---- counts
@@ -47,6 +47,12 @@ received_path : {k k' : Received} → SameReceived k k' → k ≡ k'
 received_path e = λ i. received (e.0 i) (e.1 i) (e.2 i) (e.3 i)
 
 -- ---- lengths of received lists
+
+pub due-list_lengths : (r : Receiver) (l : Lists) → due r (list_lengths l) ≡ length (list r l)
+due-list_lengths (miner one) l = refl
+due-list_lengths (miner two) l = refl
+due-list_lengths (miner three) l = refl
+due-list_lengths controller l = refl
 
 -- lists of k words
 abbrev Long : Received → Lists → Type 0
@@ -214,12 +220,6 @@ module _ (m : ℕ) (two-le : 2 ≤ m) where
 
 -- ---- what is held in the rounds of Bits and Equal: every share is a word
 
-pub record DealtWords (m : ℕ) (d : Dealt) : Type 0 where
-  pub p : AreWords m d.p
-  pub s : AreWords m d.s
-  pub v2 : d.v2 < m
-  pub v3 : d.v3 < m
-
 pub record HeldWords (m : ℕ) (h : Held) : Type 0 where
   pub p : AreWords m h.p
   pub s : AreWords m h.s
@@ -249,29 +249,13 @@ module _ (n : ℕ) where
     drawn = refl;
     long = λ u t. own_long _;
     delivered = λ u g t h.
-        followed_by_words (two-three-words (drawn-one t h 1 (omega arith)) (sub-lt m m_pos (sub m u.one (word t one 0)) (word t one 1)))
-        (two-three-words (drawn-one t h 2 (omega arith)) (R₃_word t h));
-    made = λ u g t h. made u t h;
+        let d = dealt-words (width n) u t h in
+        followed_by_words (two-three-words (word_lt t.one 1 (h One) (omega arith)) (sub-lt m m_pos _ _))
+        (two-three-words d.bar2 d.bar3);
+    made = λ u g t h. dealt-words (width n) u t h;
   }
-    where
-      drawn-one : (t : Tapes) → Contents m (counts 0 3 0 0) t → (k : ℕ) → k < 3 → word t one k < m
-      drawn-one t h k l = word_lt t.one k (h One) l
 
-      R₃_word : (t : Tapes) → Contents m (counts 0 3 0 0) t → R₃ t < m
-      R₃_word t h = xor_lt (width n) (word t one 0) (word t one 2) (drawn-one t h 0 (omega arith)) (drawn-one t h 2 (omega arith))
-
-      made : (u : Shares) (t : Tapes) → Contents m (counts 0 3 0 0) t → DealtWords m (dealt m u t)
-      made u t h =
-          let v = add m (v₂ m u t) (v₃ m u t) in
-          let v-word : v < m = add-lt m m_pos (v₂ m u t) (v₃ m u t) in
-          record {
-            p = words-three m_pos (xor_lt (width n) v (word t one 2) v-word (drawn-one t h 2 (omega arith))) (R₃_word t h);
-            s = words-three m_pos (lt_of_le_of_lt (and_le_l v (word t one 2)) v-word) (lt_of_le_of_lt (and_le_l v (R₃ t)) v-word);
-            v2 = add-lt m m_pos u.two (word t one 1);
-            v3 = add-lt m m_pos u.three (r₃ m u t);
-          }
-
-  exchange-counts : Counted m exchange (DealtWords m) (HeldWords m) (counts 0 2 2 2) (received 2 3 3 0)
+  exchange-counts : Counted m (exchange n) (DealtWords m) (HeldWords m) (counts 0 2 2 2) (received 2 3 3 0)
   unfolding exchange
   exchange-counts = record {
     drawn = refl;
@@ -279,7 +263,15 @@ module _ (n : ℕ) where
     delivered = λ d g t h.
         followed_by_words (next_words (drawn-words 0 (omega arith) h))
         (followed_by_words (next_words (drawn-words 1 (omega arith) h)) (two-three-words g.v3 g.v2));
-    made = λ d g t h. record { p = g.p; s = g.s; q = drawn-words 0 (omega arith) h; t = drawn-words 1 (omega arith) h; base = g.p };
+    made = λ d g t h.
+        let p = p₀-words (width n) g in
+        record {
+          p = p;
+          s = s₀-words (width n) g;
+          q = drawn-words 0 (omega arith) h;
+          t = drawn-words 1 (omega arith) h;
+          base = p;
+        };
   }
 
   round-counts : (k : ℕ) → Counted m (round n k) (HeldWords m) (HeldWords m) (counts 0 2 2 2) (received 4 4 4 0)

@@ -157,7 +157,8 @@ Carried u w l₀ k h l = Performed (rounds 5 k) u (within 0 0) w l₀ h l (sent_
 module _ (u : Shares) (w : Tapes) (long : Block 15 12 12 w) (l₀ : Lists) where
   pub dealt_of : (a b : Shares) → a ≡ words_at w 3 0 → b ≡ words_at w 4 1
       → let v = of_one (word w one 0 ∷ word w one 1 ∷ word w one 2 ∷ []) in let d = (deal 5).result u v in
-      (l : Lists) (h : Held) → (h ≡ begun d a b) × (l ≡ fronts l₀ ((deal 5).received u v followed_by to_next a followed_by to_next b followed_by to_two_three d.v3 d.v2)) → Carried u w l₀ 0 h l
+      let x = (deal 5).received u v followed_by to_next a followed_by to_next b followed_by to_two_three d.v3 d.v2 in
+      (l : Lists) (h : Held) → (h ≡ begun (modulus 5) d a b) × (l ≡ fronts l₀ x) → Carried u w l₀ 0 h l
   dealt_of a b e f l h =
       rounds-begun 5 u (within 0 0) w (block-three w (omega (arith, long.1))) a b {p₂ = within 5 2}
       (block-pairs w 3 0 (omega (arith, long.1)) (omega (arith, long.2)) (omega (arith, long.3)) ∙ rw (e, f)) l₀ l h

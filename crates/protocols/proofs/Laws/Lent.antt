@@ -14,7 +14,7 @@ use Rattle.protocols.specs.Equal.{compare, begin, folded, fold, folds}
 use Rattle.protocols.specs.declared.equal.Folding.{Folding}
 use Rattle.protocols.specs.declared.place.Place.{Place}
 use Rattle.protocols.specs.declared.shares.Shares.{Shares}
-use Rattle.protocols.specs.Word.{width}
+use Rattle.protocols.specs.Word.{width, modulus}
 use Rattle.protocols.specs.Shares.{one, two, three, Operands}
 use Rattle.protocols.specs.Place.{Tapes, tapes, Lists, miner, controller, draw_of, draw, ◌followed_by◌, to_next, to_two_three}
 use Rattle.protocols.specs.Draws.{draw_each, draw_pairs}
@@ -75,13 +75,13 @@ unfolding deal
 deal_performs n u p t =
     by_words One 3 (λ u w. (deal n).result u (of_one w)) (λ u w. (deal n).received u (of_one w)) u p t
 
-pub exchange_performs : (d : Dealt) (p : Place) (t : Tapes) → perform exchange d p t
+pub exchange_performs : (n : ℕ) (d : Dealt) (p : Place) (t : Tapes) → perform (exchange n) d p t
     ≡ after (draw_pairs p t)
-    (λ x q. done (begun d x.0 x.1) (to_next x.0 followed_by to_next x.1 followed_by to_two_three d.v3 d.v2) q)
-    spent
+    (λ x q. done (begun (modulus n) d x.0 x.1)
+    (to_next x.0 followed_by to_next x.1 followed_by to_two_three d.v3 d.v2) q) spent
 unfolding exchange
-exchange_performs d p t =
-    by_pairs begun (λ d x y. to_next x followed_by to_next y followed_by to_two_three d.v3 d.v2) d p t
+exchange_performs n d p t =
+    by_pairs (begun (modulus n)) (λ d x y. to_next x followed_by to_next y followed_by to_two_three d.v3 d.v2) d p t
 
 pub round_performs : (n k : ℕ) (h : Held) (p : Place) (t : Tapes) → perform (round n k) h p t
     ≡ after (draw_pairs p t)
@@ -128,13 +128,14 @@ module _ (n : ℕ) (u : Shares) (p : Place) (t : Tapes) where
   module _ {v : List ℕ} {p₁ : Place} (e : draw 3 One t.one p ≡ draw_of v p₁) where
     pub rounds-begun : (a b : Shares) {p₂ : Place} → draw_pairs p₁ t ≡ draw_of {T = Shares × Shares} (a, b) p₂
         → let d = (deal n).result u (of_one v) in let w = (deal n).received u (of_one v) followed_by to_next a followed_by to_next b followed_by to_two_three d.v3 d.v2 in
-        (l₀ l : Lists) (h : Held) → (h ≡ begun d a b) × (l ≡ fronts l₀ w) → Performed (rounds n 0) u p t l₀ h l (sent_before 0) p₂
+        (l₀ l : Lists) (h : Held) → (h ≡ begun (modulus n) d a b) × (l ≡ fronts l₀ w)
+        → Performed (rounds n 0) u p t l₀ h l (sent_before 0) p₂
     unfolding rounds deal
     rounds-begun a b f l₀ l h e' =
         let d = (deal n).result u (of_one v) in
         record {
           words = (deal n).received u (of_one v) followed_by to_next a followed_by to_next b followed_by to_two_three d.v3 d.v2;
-          is = then_done (deal n) exchange u p t (deal-done e) ∙ rw (exchange_performs, f, e'.0);
+          is = then_done (deal n) (exchange n) u p t (deal-done e) ∙ rw (exchange_performs, f, e'.0);
           are = e'.1;
           long = elim [ miner one ↦ refl | miner two ↦ refl | miner three ↦ refl | controller ↦ refl ];
         }
@@ -145,7 +146,7 @@ module _ (n : ℕ) (u : Shares) (p : Place) (t : Tapes) where
         (l' : Lists) (h' : Held) → (h' ≡ carried (width n) k x y a b h.base) × (l' ≡ puts (sent_before k) l w)
         → Performed (rounds n (k + 1)) u p t l₀ h' l' (sent_before (k + 1)) q'
     unfolding rounds
-    rounds_more a b f l' h' e = rw e.0 (round-done (deal n then exchange) (round n) u p t k d
+    rounds_more a b f l' h' e = rw e.0 (round-done (deal n then exchange n) (round n) u p t k d
         (to_next (masked h.p h.q) followed_by to_next (masked h.s h.t) followed_by to_next a followed_by to_next b) (round_performs n k h q t ∙ rw f) l' e.1
         (sent_before (k + 1)) (elim [ miner one ↦ omega arith | miner two ↦ omega arith | miner three ↦ omega arith | controller ↦ refl ]))
 

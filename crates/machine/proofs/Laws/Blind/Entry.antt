@@ -12,12 +12,12 @@ use Rattle.protocols.specs.Word.{width, modulus}
 use Rattle.protocols.specs.Shares.{Miner, one, two, three}
 use Rattle.protocols.specs.Place.{Tapes, tapes, tape, owner, counts, Lists, Receiver, miner, controller, list}
 use Rattle.protocols.specs.Contents.{Below as AllBelow, Contents}
-use Rattle.protocols.specs.Counts.{due}
+use Rattle.protocols.specs.Counts.{list_lengths, due}
 use Rattle.protocols.specs.Blind.{Observer, watching, controlling, Sees, Holds}
 use Rattle.machine.specs.declared.code.Command.{Command}
 use Rattle.machine.specs.declared.answer.Answer.{Answer}
 use Rattle.machine.specs.declared.lent.Sizes.{Sizes}
-use Rattle.machine.specs.Lent.{Tables, Lent, lent, table, tape_lengths, list_lengths, lengths, AreWords}
+use Rattle.machine.specs.Lent.{Tables, Lent, lent, table, tape_lengths, lengths, AreWords}
 use Rattle.machine.specs.Registers.{Registers, registers, leads}
 use Rattle.machine.specs.Start.{up_to, start}
 use Rattle.machine.specs.Run.{Ran, run, empty, reply}

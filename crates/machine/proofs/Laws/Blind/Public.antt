@@ -23,10 +23,16 @@ abbrev pub kinds_after : ℕ → Verdict → Place → List ℕ → List ℕ
 kinds_after n (Accepted x) p k = put (row n x).values k p.handles (kind_number (row n x).kind)
 kinds_after n (Refused r) p k = k
 
--- the place record after a run, and the replies
+-- the place record and the kinds after a run, and the replies
 unfoldable pub place_at_end : ℕ → List Command → Place → Sizes → List ℕ → Place
 place_at_end n [] p z k = p
 place_at_end n (c ∷ cs) p z k = let v = verdict n c p z k in place_at_end n cs (place_after n v p) z (kinds_after n v p k)
+
+unfoldable pub kinds_at_end : ℕ → List Command → Place → Sizes → List ℕ → List ℕ
+kinds_at_end n [] p z k = k
+kinds_at_end n (c ∷ cs) p z k =
+    let v = verdict n c p z k in
+    kinds_at_end n cs (place_after n v p) z (kinds_after n v p k)
 
 unfoldable pub replies_to : ℕ → List Command → Place → Sizes → List ℕ → List Reply
 replies_to n [] p z k = []

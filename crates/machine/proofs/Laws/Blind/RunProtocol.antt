@@ -22,7 +22,7 @@ use Rattle.machine.specs.Run.{Ran, run, Reply, reply}
 use Rattle.machine.proofs.Laws.Accepted.{all_passed, has_room}
 use Rattle.machine.proofs.Laws.Steps.{steps_counted}
 use Rattle.machine.proofs.Laws.Agree.{leaves, sends}
-use Rattle.machine.proofs.Laws.Blind.Public.{place_after, kinds_after, place_at_end, replies_to, command_public}
+use Rattle.machine.proofs.Laws.Blind.Public.{place_after, kinds_after, place_at_end, kinds_at_end, replies_to, command_public}
 
 -- ---- the protocol
 
@@ -104,12 +104,13 @@ module _ (n : ℕ) (c : Command) (p : Place) (l : Lent) (t : Tapes) where
 pub record Follows (n : ℕ) (cs : List Command) (p : Place) (z : Sizes) (k : List ℕ) (l : Lent) (t : Tapes) (r : Ran) : Type 0 where
   pub leaves-lent : r.lent ≡ with_tapes t ((run_protocol n cs p z k).result l (rest p.drawn t))
   pub ends : r.place ≡ place_at_end n cs p z k
+  pub kinds : r.lent.kinds ≡ kinds_at_end n cs p z k
   pub answers : map reply r.answers ≡ replies_to n cs p z k
 
 pub run_follows : (n : ℕ) (cs : List Command) (p : Place) (z : Sizes) (k : List ℕ) (l : Lent) (t : Tapes)
     → sizes (with_tapes t l) ≡ z → l.kinds ≡ k → Follows n cs p z k l t (run n cs p (with_tapes t l))
-unfolding run run_protocol place_at_end replies_to
-run_follows n [] p z k l t e f = record { leaves-lent = refl; ends = refl; answers = refl }
+unfolding run run_protocol place_at_end kinds_at_end replies_to
+run_follows n [] p z k l t e f = record { leaves-lent = refl; ends = refl; kinds = f; answers = refl }
 run_follows n (c ∷ cs) p z k l t e f =
     let v = verdict n c p z k in
     let q = place_after n v p in
@@ -126,6 +127,7 @@ run_follows n (c ∷ cs) p z k l t e f =
           ∙ ap (λ (b : Tapes). with_tapes t ((run_protocol n cs q z j).result l₁ b)) (sym (rest-after n c p l t v))
           ∙ ap (with_tapes t) (sym (then_result (step_protocol n v c p) (run_protocol n cs q z j) l (rest p.drawn t)));
       ends = ap (λ (r : Ran). r.place) goes ∙ rest-follows.ends;
+      kinds = ap (λ (r : Ran). r.lent.kinds) goes ∙ rest-follows.kinds;
       answers = ap₂ (λ (a : Reply) (r : List Reply). a ∷ r) (λ i. record { number = u.same_number i; place = u.same_place i })
           (ap (λ (r : Ran). map reply r.answers) goes ∙ rest-follows.answers);
     }

@@ -1,32 +1,34 @@
 -- Bits is blind.
 use Rattle.std.proofs.Common.{◌≡◌, ℕ, zero, suc, ◌^◌, ◌<◌, List, [], ◌∷◌, sym, refl, ap, ◌∙◌, arith, pow_pos}
-use lib.Bits.{bit_xor, xor_lt, and_lt}
+use lib.Bits.{bit_xor, xor_lt}
 use Rattle.protocols.specs.declared.place.Party.TheVariants.{One}
 use Rattle.protocols.specs.declared.shares.Shares.{Shares}
 use Rattle.protocols.specs.declared.bits.Dealt.{Dealt}
 use Rattle.protocols.specs.declared.bits.Held.{Held}
 use Rattle.protocols.specs.Word.{width, modulus, add, sub, up}
-use Rattle.protocols.specs.Shares.{Miner, one, two, three, prev, at, each, AreWords}
-use Rattle.protocols.specs.Place.{Tapes, counts, word, words, miner, list, to_two_three}
+use Rattle.protocols.specs.Shares.{Miner, one, two, three, prev, at, each, shares, AreWords}
+use Rattle.protocols.specs.Place.{Tapes, counts, word, words, miner}
 use Rattle.protocols.specs.Masked.{masked}
-use Rattle.protocols.specs.Bits.{r₃, R₃, v₂, v₃, dealt, deal, exchange, round_s, round_p, round, rounds, joined, bits}
+use Rattle.protocols.specs.Bits.{r₃, R₃, v₂, v₃, p₀, s₀, deal, exchange, round_s, round_p, round, rounds, joined, bits}
 use Rattle.protocols.specs.Contents.{Contents}
 use Rattle.protocols.specs.Blind.{Observer, Sees, SameShares, Blind}
-use Rattle.protocols.proofs.Laws.Ring.{add-lt, sub-lt, sub-sub, sub_comm, regroup, add-sub-left, sub-add-left}
+use Rattle.protocols.proofs.Laws.Ring.{sub-lt, sub-sub, sub_comm, regroup, add-sub-left, sub-add-left}
 use Rattle.protocols.proofs.Laws.Bitwise.{xor_cancel_l}
 use Rattle.protocols.proofs.Laws.Shared.{round_s-lt, round_p-lt}
 use Rattle.protocols.proofs.Laws.Blocks.{word_lt}
+use Rattle.protocols.proofs.Laws.Bounds.{DealtWords, dealt-words, p₀-words, s₀-words}
 use Rattle.protocols.proofs.Laws.Blind.Compose.{BlindFor, Seen, blind_then, blind_then_any, unmasked_for, blind-locally, blind_silent}
 use Rattle.protocols.proofs.Laws.Blind.Cover.{change, Undone, changed_for, listed_get_or, Mixes, Known, covered_for}
-use Rattle.protocols.proofs.Laws.Blind.Miner.{SameAt, own_same, near_same, next_same, next_followed, pick, pick_words}
+use Rattle.protocols.proofs.Laws.Blind.Miner.{SameAt, own_same, near_same, next_same, next_followed}
+use Rattle.protocols.proofs.Laws.Blind.Miner.{two-three-same, pick, pick_words}
 
 -- ---- what looks the same to miner i
 
--- after the dealing: its shares, and what it will receive in the exchange
+-- after the dealing: its own masked share and R, and the masked share that it will receive
 record SameDealt (i : Miner) (d d' : Dealt) : Type 0 where
-  p : SameAt i d.p d'.p
-  s : SameAt i d.s d'.s
-  due : list (miner i) (to_two_three d.v3 d.v2) ≡ list (miner i) (to_two_three d'.v3 d'.v2)
+  own : SameAt i (shares 0 d.v2 d.v3) (shares 0 d'.v2 d'.v3)
+  bar : SameAt i (shares 0 d.bar2 d.bar3) (shares 0 d'.bar2 d'.bar3)
+  due : SameAt i (shares 0 d.v3 d.v2) (shares 0 d'.v3 d'.v2)
 
 -- between two rounds: its shares, and the masked shares of the next round, its own and those that it will receive
 record SameHeld (i : Miner) (h h' : Held) : Type 0 where
@@ -97,9 +99,6 @@ module _ (n : ℕ) where
     drawn-lt : (k : ℕ) → k < 3 → word t one k < m
     drawn-lt k h = word_lt t.one k (c One) h
 
-    R₃_lt : R₃ t < m
-    R₃_lt = xor_lt (width n) (word t one 0) (word t one 2) (drawn-lt 0 (omega arith)) (drawn-lt 2 (omega arith))
-
   mask-two_undone : (u : Shares) → Undone m (counts 0 3 0 0) One (mask-two u) (mask-two u)
   mask-two_undone u = record {
     makes = λ t c. record { long = refl; below = (sub-lt m pos _ _, (drawn-lt t c 1 (omega arith), (drawn-lt t c 2 (omega arith), tt))) };
@@ -109,7 +108,9 @@ module _ (n : ℕ) where
 
   mask-three_undone : (u : Shares) → Undone m (counts 0 3 0 0) One (mask-three u) (unmask-three u)
   mask-three_undone u = record {
-    makes = λ t c. record { long = refl; below = (sub-lt m pos _ _, (add-lt m pos _ _, (R₃_lt t c, tt))) };
+    makes = λ t c.
+        let d = dealt-words (width n) u t c in
+        record { long = refl; below = (sub-lt m pos _ _, (d.v2, (d.bar3, tt))) };
     undo = λ t c.
         let t' = change One (mask-three u t) t in
         let e₁ : second_word u t' ≡ word t one 1 = add-sub-left m pos u.two (word t one 1) (drawn-lt t c 1 (omega arith)) in
@@ -136,21 +137,21 @@ module _ (n : ℕ) where
 
   deal_for : {Good : Shares → Type 0} (i : Miner) (o : Observer) → Sees o (miner i) → BlindFor m i (deal n) Good (SameShares o) (SameDealt i)
   unfolding deal
-  deal_for one o e = unmasked_for (λ u u' r t. (record { p = refl; s = refl; due = refl }, refl))
+  deal_for one o e = unmasked_for (λ u u' r t. (record { own = refl; bar = refl; due = refl }, refl))
   deal_for two o e =
       changed_for One (λ l t. refl) mask-two mask-two (λ u a. mask-two_undone u) (λ u a. mask-two_undone u) λ u u' r t t' d.
       let own = r two e in
       let e₀ : v₃ m u t ≡ v₃ m u' t' = regroup m pos _ _ _ _ ∙ ap (λ (x : Tapes). word x one 0) d ∙ sym (regroup m pos _ _ _ _) in
       let e₁ : word t one 1 ≡ word t' one 1 = ap (λ (x : Tapes). word x one 1) d in
       let e₂ : word t one 2 ≡ word t' one 2 = ap (λ (x : Tapes). word x one 2) d in
-      (record { p = cc (own, e₀, e₁, e₂); s = cc (own, e₀, e₁, e₂); due = ap (λ (x : ℕ). x ∷ []) e₀ }, cc (e₁, e₂))
+      (record { own = cc (own, e₁); bar = e₂; due = e₀ }, cc (e₁, e₂))
   deal_for three o e =
       changed_for One (λ l t. refl) mask-three unmask-three (λ u a. mask-three_undone u) (λ u a. unmask-three_undone u) λ u u' r t t' d.
       let own = r three e in
       let e₀ : r₃ m u t ≡ r₃ m u' t' = ap (λ (x : Tapes). word x one 0) d in
       let e₁ : v₂ m u t ≡ v₂ m u' t' = ap (λ (x : Tapes). word x one 1) d in
       let e₂ : R₃ t ≡ R₃ t' = ap (λ (x : Tapes). word x one 2) d in
-      (record { p = e₂; s = cc (own, e₀, e₁, e₂); due = ap (λ (x : ℕ). x ∷ []) e₁ }, cc (e₀, e₂))
+      (record { own = cc (own, e₀); bar = e₂; due = e₁ }, cc (e₀, e₂))
 
   deal-blind : {Good : Shares → Type 0} (o : Observer) → Blind m o (deal n) Good (SameShares o) (Seen SameDealt o)
   unfolding deal
@@ -158,26 +159,30 @@ module _ (n : ℕ) where
 
   -- ---- the exchange
 
-  abbrev SharesAreWords : Dealt → Type 0
-  SharesAreWords d = AreWords m d.p × AreWords m d.s
+  -- the shares that it leaves
+  p₀_same : (i : Miner) (d d' : Dealt) → SameDealt i d d' → SameAt i (p₀ m d) (p₀ m d')
+  p₀_same one d d' h = refl
+  p₀_same two d d' h = cc (h.own, h.bar, h.due)
+  p₀_same three d d' h = h.bar
 
-  dealt-words : (u : Shares) (t : Tapes) → Contents m (counts 0 3 0 0) t → SharesAreWords (dealt m u t)
-  dealt-words u t c =
-      let v-lt : add m (v₂ m u t) (v₃ m u t) < m = add-lt m pos _ _ in
-      let R₂-lt = drawn-lt t c 2 (omega arith) in (
-        elim [ one ↦ pos | two ↦ xor_lt (width n) _ _ v-lt R₂-lt | three ↦ R₃_lt t c ],
-        elim [ one ↦ pos | two ↦ and_lt (width n) _ _ v-lt R₂-lt | three ↦ and_lt (width n) _ _ v-lt (R₃_lt t c) ],
-      )
+  s₀_same : (i : Miner) (d d' : Dealt) → SameDealt i d d' → SameAt i (s₀ m d) (s₀ m d')
+  s₀_same one d d' h = refl
+  s₀_same two d d' h = cc (h.own, h.bar, h.due)
+  s₀_same three d d' h = cc (h.own, h.bar, h.due)
 
-  exchange_for : (i : Miner) (o : Observer) → Sees o (miner i) → BlindFor m i exchange SharesAreWords (Seen SameDealt o) (SameHeld i)
+  exchange_for : (i : Miner) (o : Observer) → Sees o (miner i)
+      → BlindFor m i (exchange n) (DealtWords m) (Seen SameDealt o) (SameHeld i)
   unfolding exchange
   exchange_for i o e =
-      covered_for i 2 refl (xor_mixes (width n)) (λ d k. pick k d.p d.s) (λ d a k. pick_words k d.p d.s a.0 a.1) λ d d' r b b' z.
+      covered_for i 2 refl (xor_mixes (width n)) (λ d k. pick k (p₀ m d) (s₀ m d))
+      (λ d a k. pick_words k _ _ (p₀-words (width n) a) (s₀-words (width n) a)) λ d d' r b b' z.
       let y = r i e in
-      let got = next_followed i _ _ _ _ (z.before 0) (next_followed i _ _ _ _ (z.before 1) y.due) in
-      (held_same i _ _ _ _ _ _ b b' y.p y.s y.p z, got)
+      let ep = p₀_same i d d' y in
+      let due = two-three-same i _ _ _ _ y.due in
+      let got = next_followed i _ _ _ _ (z.before 0) (next_followed i _ _ _ _ (z.before 1) due) in
+      (held_same i _ _ _ _ _ _ b b' ep (s₀_same i d d' y) ep z, got)
 
-  exchange-blind : (o : Observer) → Blind m o exchange SharesAreWords (Seen SameDealt o) (Seen SameHeld o)
+  exchange-blind : (o : Observer) → Blind m o (exchange n) (DealtWords m) (Seen SameDealt o) (Seen SameHeld o)
   unfolding exchange
   exchange-blind = blind_silent (λ d t. refl) exchange_for
 
@@ -218,7 +223,7 @@ module _ (n : ℕ) where
 
   rounds-blind : {Good : Shares → Type 0} (k : ℕ) (o : Observer) → Blind m o (rounds n k) Good (SameShares o) (Seen SameHeld o)
   unfolding rounds deal
-  rounds-blind zero o = blind_then (deal-blind o) (λ u a t c. dealt-words u t c) (exchange-blind o)
+  rounds-blind zero o = blind_then (deal-blind o) (λ u a t c. dealt-words (width n) u t c) (exchange-blind o)
   rounds-blind (suc k) o = blind_then_any (rounds-blind k o) (round-blind k o)
 
   pub bits_blind : {Good : Shares → Type 0} (o : Observer) → Blind (modulus n) o (bits n) Good (SameShares o) (SameShares o)

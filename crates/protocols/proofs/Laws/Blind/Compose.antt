@@ -26,7 +26,7 @@ tape-join One c d = refl
 tape-join Two c d = refl
 tape-join Three c d = refl
 
-list_followed : (r : Receiver) (l k : Lists) → list r (l followed_by k) ≡ list r l ++ list r k
+pub list_followed : (r : Receiver) (l k : Lists) → list r (l followed_by k) ≡ list r l ++ list r k
 list_followed (miner one) l k = refl
 list_followed (miner two) l k = refl
 list_followed (miner three) l k = refl

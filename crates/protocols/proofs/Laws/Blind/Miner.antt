@@ -1,8 +1,8 @@
 -- What one miner has of shares and of received lists, in two runs.
-use Rattle.std.proofs.Common.{◌≡◌, ℕ, zero, suc, List, [], ◌∷◌, ap, ap₂}
+use Rattle.std.proofs.Common.{◌≡◌, ℕ, zero, suc, List, [], ◌∷◌, refl, ap, ap₂}
 use Rattle.protocols.specs.declared.shares.Shares.{Shares}
-use Rattle.protocols.specs.Shares.{Miner, one, two, three, prev, at, each, AreWords}
-use Rattle.protocols.specs.Place.{Lists, miner, list, to_next, ◌followed_by◌}
+use Rattle.protocols.specs.Shares.{Miner, one, two, three, prev, at, each, shares, AreWords}
+use Rattle.protocols.specs.Place.{Lists, miner, list, to_next, to_two_three, ◌followed_by◌}
 
 -- ---- shares
 
@@ -35,6 +35,13 @@ pub next_followed : (i : Miner) (s s' : Shares) (l l' : Lists) → SameAt (prev 
 next_followed one s s' l l' e d = ap₂ (λ (x : ℕ) (r : List ℕ). x ∷ r) e d
 next_followed two s s' l l' e d = ap₂ (λ (x : ℕ) (r : List ℕ). x ∷ r) e d
 next_followed three s s' l l' e d = ap₂ (λ (x : ℕ) (r : List ℕ). x ∷ r) e d
+
+-- the word that miner 2 or miner 3 receives
+pub two-three-same : (i : Miner) (a b a' b' : ℕ) → SameAt i (shares 0 a b) (shares 0 a' b')
+    → list (miner i) (to_two_three a b) ≡ list (miner i) (to_two_three a' b')
+two-three-same one a b a' b' e = refl
+two-three-same two a b a' b' e = ap (λ (x : ℕ). x ∷ []) e
+two-three-same three a b a' b' e = ap (λ (x : ℕ). x ∷ []) e
 
 -- ---- two values by index: the first by 0, the second by any other
 

@@ -1,0 +1,96 @@
+-- What is claimed of runs by parties apart: a provider and three miners, each on what it has, come to every run.
+use Rattle.std.specs.Prelude.{ℕ, ◌≡◌, Bool, cond, List, map}
+use Rattle.protocols.specs.declared.place.Party.{Party}
+use Rattle.protocols.specs.declared.place.Party.TheVariants.{Provider, One, Two, Three}
+use Rattle.protocols.specs.declared.place.Place.{Place}
+use Rattle.protocols.specs.Shares.{Miner, one, two, three}
+use Rattle.protocols.specs.Place.{tape, owner, rest, Lists, Receiver, miner, list}
+use Rattle.protocols.specs.Counts.{due}
+use Rattle.protocols.specs.Parties.{Process, Sent, connected, connect, for_party}
+use Rattle.protocols.specs.Alone.{alone, sends_of, Agree}
+use Rattle.protocols.specs.Apart.{mixed_tapes}
+use Rattle.machine.specs.declared.code.Command.{Command}
+use Rattle.machine.specs.declared.lent.Sizes.{Sizes}
+use Rattle.machine.specs.Lent.{Lent, tables, sizes, table}
+use Rattle.machine.specs.Run.{Ran, Reply, reply, run, run_to_refusal}
+use Rattle.machine.specs.Claims.{Appended}
+
+-- what a party has of what is lent, beside its tape: the provider the inputs, a miner its share table
+abbrev pub own_part : Party → Lent → List ℕ
+own_part Provider l = l.inputs
+own_part One l = l.tables.one
+own_part Two l = l.tables.two
+own_part Three l = l.tables.three
+
+-- What each party does in a run, a process made of its own part and its own tape, and what all can tell beforehand.
+pub record Programs : Type 0 where
+  pub rounds : ℕ
+  -- how many words are sent, by whom and to whom, in each round
+  pub timetable : List Sent
+  pub program : Party → List ℕ → List ℕ → Process rounds (List ℕ)
+  -- what each command is answered, and the place record and the kinds at the end
+  pub replies : List Reply
+  pub place : Place
+  pub kinds : List ℕ
+
+-- a party's process from the place p, of what is lent to it alone
+abbrev pub started : (P : Programs) → Place → Lent → Party → Process P.rounds (List ℕ)
+started P p l i = P.program i (own_part i l) (tape i (rest p.drawn l.tapes))
+
+-- Four programs come to the run r from the place p, with l lent. (Opened words are the controller's, who adds them up
+-- from its received list.)
+pub record ComesTo (P : Programs) (p : Place) (l : Lent) (r : Ran) : Type 0 where
+  -- connected, each party ends with what it has after the run, and these words are sent, by the timetable
+  pub words : Lists
+  pub plays : connect P.rounds (started P p l) ≡ connected (λ i. own_part i r.lent) words P.timetable
+  -- each received list has its words more, and all else of it is as it was
+  pub grown : (i : Receiver) → Appended (list i l.received) (due i p.received) (list i words) (list i r.lent.received)
+  -- what was told beforehand is so
+  pub replies : map reply r.answers ≡ P.replies
+  pub place : r.place ≡ P.place
+  pub kinds : r.lent.kinds ≡ P.kinds
+  -- and no tape is written to
+  pub tapes : r.lent.tapes ≡ l.tapes
+  -- so each party by itself, on the list of the words that it receives, ends with the same and sends the same
+  pub by_itself : (i : Party) → alone (List ℕ) P.rounds i P.timetable (started P p l i) (for_party i words)
+      ≡ record { ends = own_part i r.lent; sends = sends_of (List ℕ) P.rounds (started P p l) i }
+  -- and no other words agree with what the four send
+  pub only : (w : Lists) → Agree (List ℕ) P.rounds P.timetable (started P p l) w → w ≡ words
+
+-- Four programs come to each run from the place p of whatever is lent that has the lengths z and the kinds k: they are
+-- settled by these, the place and the commands, and by nothing that a party has.
+abbrev pub Apart : (Place → Lent → Ran) → Place → Sizes → List ℕ → Type 0
+Apart runs p z k = (P : Programs) × ((l : Lent) → sizes l ≡ z → l.kinds ≡ k → ComesTo P p l (runs p l))
+
+-- promised by `runs_apart`: every list of commands is run by parties apart, past refusals and up to the first one
+pub record RunsApart (n : ℕ) (cs : List Command) (p : Place) (z : Sizes) (k : List ℕ) : Type 0 where
+  pub past_refusals : Apart (run n cs) p z k
+  pub to_refusal : Apart (run_to_refusal n cs) p z k
+
+-- promised by `same_view`: of runs by parties apart, a miner that has the same table in two runs, the same tape and the
+-- same received list after them has the same table after both
+abbrev pub SameView : (Place → Lent → Ran) → Place → Sizes → List ℕ → Type 0
+SameView runs p z k = (i : Miner) (l l' : Lent)
+    → sizes l ≡ z → sizes l' ≡ z → l.kinds ≡ k → l'.kinds ≡ k
+    → table i l.tables ≡ table i l'.tables → tape (owner i) l.tapes ≡ tape (owner i) l'.tapes
+    → list (miner i) (runs p l).lent.received ≡ list (miner i) (runs p l').lent.received
+    → table i (runs p l).lent.tables ≡ table i (runs p l').lent.tables
+
+-- what is lent, with each party's part that of l or that of l'; all else is as in l
+abbrev pub mixed : (Party → Bool) → Lent → Lent → Lent
+mixed first l l' =
+    let its = λ (i : Miner). cond (first (owner i)) (table i l.tables) (table i l'.tables) in
+    record l {
+      tables = tables (its one) (its two) (its three);
+      inputs = cond (first Provider) l.inputs l'.inputs;
+      tapes = mixed_tapes first l.tapes l'.tapes;
+    }
+
+-- promised by `mixed_runs`: of runs by parties apart, where two leave the same received lists, so does each run in
+-- which every party has its part of the one or of the other, and each miner ends with the table that it has in that one
+pub record MixedRuns (runs : Place → Lent → Ran) (p : Place) (l l' : Lent) (first : Party → Bool) : Type 0 where
+  pub received : (runs p l).lent.received ≡ (runs p l').lent.received
+      → (runs p (mixed first l l')).lent.received ≡ (runs p l).lent.received
+  pub tables : (runs p l).lent.received ≡ (runs p l').lent.received
+      → (i : Miner) → table i (runs p (mixed first l l')).lent.tables
+      ≡ cond (first (owner i)) (table i (runs p l).lent.tables) (table i (runs p l').lent.tables)

@@ -1,0 +1,76 @@
+-- The words in which the parties' programs are written.
+use Rattle.std.specs.Prelude.{ℕ, zero, suc, List, [], slice_index}
+use Rattle.protocols.specs.declared.place.Party.{Party}
+use Rattle.protocols.specs.declared.place.Party.TheVariants.{Provider, One, Two, Three}
+use Rattle.protocols.specs.declared.place.Received.{Received}
+use Rattle.protocols.specs.declared.shares.Shares.{Shares}
+use Rattle.protocols.specs.Shares.{Miner, one, two, three, prev}
+use Rattle.protocols.specs.Place.{Lists, lists, silence, owner}
+use Rattle.protocols.specs.Counts.{received}
+use Rattle.protocols.specs.Parties.{Mail, Process, Sent}
+
+-- a round, and then what comes after it
+abbrev pub round : (B : Type 0) (r : ℕ) → Lists → (Mail → Process r B) → Process (suc r) B
+round B r o k = record { sends = o; goes_on = k }
+
+-- word k of a list
+abbrev pub nth : ℕ → List ℕ → ℕ
+nth k l = slice_index l k
+
+-- the provider does nothing, and has x in the end
+abbrev idle : {B : Type 0} (r : ℕ) → B → Process r B
+idle zero x = x
+idle (suc r) x = record { sends = silence; goes_on = λ m. idle r x }
+
+-- three miners' programs, and an idle provider
+abbrev pub miners : {A B : Type 0} (r : ℕ) → B → (Miner → A → List ℕ → Process r B) → Party → A → List ℕ → Process r B
+miners r x p Provider a l = idle r x
+miners r x p One a l = p one a l
+miners r x p Two a l = p two a l
+miners r x p Three a l = p three a l
+
+-- what miners do with their own shares, with no word sent
+abbrev pub by_miner : {A : Type 0} → (Miner → A → ℕ) → Party → A → ℕ
+by_miner f Provider a = 0
+by_miner f One a = f one a
+by_miner f Two a = f two a
+by_miner f Three a = f three a
+
+-- the share of the previous miner, where it has sent it
+abbrev pub previous : Party → Shares → ℕ
+previous Provider s = 0
+previous One s = s.three
+previous Two s = s.one
+previous Three s = s.two
+
+-- words for the next miner, for miner 2 and miner 3, for the controller; what the previous miner sends
+abbrev pub for_next : Miner → List ℕ → Lists
+for_next one l = lists [] l [] []
+for_next two l = lists [] [] l []
+for_next three l = lists l [] [] []
+
+abbrev pub for_two_three : List ℕ → List ℕ → Lists
+for_two_three k l = lists [] k l []
+
+abbrev pub for_controller : List ℕ → Lists
+for_controller l = lists [] [] [] l
+
+abbrev pub from_previous : Miner → Mail → List ℕ
+from_previous i m = m (owner (prev i))
+
+-- ---- timetables: a round in which the provider or the miners send so many words
+
+abbrev pub none : Received
+none = received 0 0 0 0
+
+abbrev pub provider_sends : Received → Sent
+provider_sends k = record { provider = k; one = none; two = none; three = none }
+
+abbrev pub miners_send : Received → Received → Received → Sent
+miners_send a b c = record { provider = none; one = a; two = b; three = c }
+
+abbrev pub each_next : ℕ → Sent
+each_next k = miners_send (received 0 k 0 0) (received 0 0 k 0) (received k 0 0 0)
+
+abbrev pub one_deals : ℕ → Sent
+one_deals k = miners_send (received 0 k k 0) none none

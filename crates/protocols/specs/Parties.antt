@@ -1,0 +1,82 @@
+-- Parties apart: what a party does by itself, four parties connected by rounds, and a protocol that they play so.
+use Rattle.std.specs.Prelude.{◌≡◌, ℕ, zero, suc, List, [], ◌∷◌}
+use Rattle.protocols.specs.declared.place.Party.{Party}
+use Rattle.protocols.specs.declared.place.Party.TheVariants.{Provider, One, Two, Three}
+use Rattle.protocols.specs.declared.place.Received.{Received}
+use Rattle.protocols.specs.Place.{Tapes, tape, Lists, silence, ◌followed_by◌}
+use Rattle.protocols.specs.Protocol.{Protocol}
+use Rattle.protocols.specs.Counts.{list_lengths}
+
+-- ---- a party
+
+-- what a party is sent in a round, by each party
+abbrev pub Mail : Type 0
+Mail = Party → List ℕ
+
+-- What a party does in r rounds, and what it has in the end. In a round it sends words, and then goes on with what it
+-- is sent. By this type it knows nothing else of the other parties.
+abbrev pub Process : ℕ → Type 0 → Type 0
+Process zero B = B
+Process (suc r) B = record { sends : Lists; goes_on : Mail → Process r B }
+
+-- what of these words is for a party; the provider receives nothing
+abbrev pub for_party : Party → Lists → List ℕ
+for_party Provider l = []
+for_party One l = l.one
+for_party Two l = l.two
+for_party Three l = l.three
+
+-- ---- four parties
+
+-- a round's words, of which each list has those of the provider first, and then those of miners 1, 2 and 3
+abbrev pub in_turn : (Party → Lists) → Lists
+in_turn o = o Provider followed_by o One followed_by o Two followed_by o Three
+
+-- how many words each party sends to each list in a round
+pub record Sent : Type 0 where
+  pub provider : Received
+  pub one : Received
+  pub two : Received
+  pub three : Received
+
+-- the same of a round in which the parties send these words
+abbrev pub sent : (Party → Lists) → Sent
+sent o = record {
+  provider = list_lengths (o Provider);
+  one = list_lengths (o One);
+  two = list_lengths (o Two);
+  three = list_lengths (o Three);
+}
+
+-- what each party has in the end, the lists of received words, and how many words were sent, round by round
+pub record Connected (B : Type 0) : Type 0 where
+  pub ends : Party → B
+  pub received : Lists
+  pub sent : List Sent
+
+-- such a record, of its three fields in turn
+abbrev pub connected : {B : Type 0} → (Party → B) → Lists → List Sent → Connected B
+connected e l t = record { ends = e; received = l; sent = t }
+
+-- the four go through their rounds together, and each is told what the others send to it, and no more
+unfoldable pub connect : {B : Type 0} (r : ℕ) → (Party → Process r B) → Connected B
+connect zero p = connected p silence []
+connect (suc r) p =
+    let o = λ (i : Party). (p i).sends in
+    let c = connect r (λ i. (p i).goes_on (λ j. for_party i (o j))) in
+    connected c.ends (in_turn o followed_by c.received) (sent o ∷ c.sent)
+
+-- ---- a protocol
+
+-- A protocol is played apart if each party has a program, fixed beforehand: a process made of what that party alone has
+-- before the protocol and of its own drawn words. Connected, the four end in what each is to have of the protocol's
+-- result, and every list receives the protocol's words. How many words are sent, by whom, to whom and in which round,
+-- is fixed beforehand too: so neither the length nor the moment of a message tells anything.
+pub record PlayedApart {S T A B : Type 0} (f : Protocol S T) (before : Party → S → A) (after : Party → T → B)
+    : Type 0 where
+  pub rounds : ℕ
+  pub timetable : List Sent
+  pub program : Party → A → List ℕ → Process rounds B
+  pub plays : (s : S) (b : Tapes)
+      → connect rounds (λ i. program i (before i s) (tape i b))
+      ≡ connected (λ i. after i (f.result s b)) (f.received s b) timetable
