@@ -1,6 +1,6 @@
-"""Counts, over contents of the tapes, how often an observer gets each record: 01's entry 3 checked on small words.
+"""Counts, over contents of the tapes, how often an observer gets each record: blindness checked on small words.
 
-Entry 3 pairs contents of tapes off so that paired runs, on two input lists, give the observer the same record. This can be
+Blindness pairs contents of tapes off so that paired runs, on two input lists, give the observer the same record. This can be
 done exactly when each record comes up equally often on both lists. Contents of 32-bit words are too many to go through, so
 protocol_vectors.py and command_cases.py, which are checked against the engine at 32 bits, run here on words of 2^n bits:
 n = 0 has no rounds in bits and equal, n = 1 has one, n = 2 has two. A line for each check; the status is 1 if one fails.
@@ -177,7 +177,7 @@ def going_on(states, command, number, words, share):
 
 
 def record(observer, machine, answers):
-    """01's record, the received words first."""
+    """An observer's record, the received words first."""
     received = tuple(machine.lists[LISTS[observer - 1]][: machine.place[LISTS[observer - 1]]])
     answered = tuple(answer[:2] for answer in answers)
     if observer == CONTROLLER:

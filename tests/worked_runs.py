@@ -39,9 +39,9 @@ use Rattle.protocols.specs.declared.place.Place.{Place}
 use Rattle.protocols.specs.declared.shares.Shares.{Shares}
 use Rattle.protocols.specs.Shares.{shares}
 use Rattle.protocols.specs.Place.{Tapes, tapes, Lists, lists, silence, place_of}
-use Rattle.machine.specs.Table.{command as asked}
-use Rattle.machine.specs.Lent.{Tables, tables, Lent, lent}
-use Rattle.machine.specs.Command.{Outcome, answer, outcome, command}
+use Rattle.machine.specs.Table.{command_of}
+use Rattle.machine.specs.Lent.{Tables, tables, Lent, lent_lists}
+use Rattle.machine.specs.Command.{CommandOutcome, answer, command_outcome, command}
 """
 # What is lent, each list in the place of a %s.
 LENT = """\
@@ -55,25 +55,25 @@ values = tables
 abbrev pub kinds : List ℕ
 kinds = %s
 -- what stands in the two entries that are not filled
-abbrev pub free : Tables
-free = tables
+abbrev pub unfilled_entries : Tables
+unfilled_entries = tables
 %s
-abbrev pub free_kinds : List ℕ
-free_kinds = %s
+abbrev pub unfilled_kinds : List ℕ
+unfilled_kinds = %s
 -- one input is used
 abbrev pub inputs : List ℕ
 inputs = %s
 -- 1, 2, 3 and 4 words are drawn
-abbrev pub tapes_lent : Tapes
-tapes_lent = tapes
+abbrev pub lent_tapes : Tapes
+lent_tapes = tapes
 %s
 -- the words that were received before
-abbrev pub received_before : Lists
-received_before = lists
+abbrev pub words_before : Lists
+words_before = lists
 %s
 -- what stands in the unfilled part of each list
-abbrev pub unfilled : Lists
-unfilled = lists
+abbrev pub unfilled_parts : Lists
+unfilled_parts = lists
 %s
 -- filled handles and used inputs; words drawn by the provider and miners 1 to 3; words received by these miners and the
 -- controller
@@ -84,43 +84,44 @@ FORMS = """\
 -- ---- a run, and what it leaves
 
 -- a list: the words that it held, new words after them, and the rest of it as it was
-abbrev pub continued : List ℕ → List ℕ → List ℕ → List ℕ
-continued held words beyond = held ++ (words ++ drop (length words) beyond)
+abbrev pub with_words : List ℕ → List ℕ → List ℕ → List ℕ
+with_words held words beyond = held ++ (words ++ drop (length words) beyond)
 
 abbrev pub tables_with : Tables → Tables
 tables_with new =
-    tables (continued values.one new.one free.one) (continued values.two new.two free.two)
-    (continued values.three new.three free.three)
+    tables (with_words values.one new.one unfilled_entries.one) (with_words values.two new.two unfilled_entries.two)
+    (with_words values.three new.three unfilled_entries.three)
 
 abbrev pub lists_with : Lists → Lists
 lists_with words =
-    let before = received_before in
-    lists (continued before.one words.one unfilled.one) (continued before.two words.two unfilled.two)
-    (continued before.three words.three unfilled.three)
-    (continued before.controller words.controller unfilled.controller)
+    let before = words_before in
+    lists (with_words before.one words.one unfilled_parts.one) (with_words before.two words.two unfilled_parts.two)
+    (with_words before.three words.three unfilled_parts.three)
+    (with_words before.controller words.controller unfilled_parts.controller)
 
 -- all that is lent, with new shares and kinds, and with words that the parties receive
 abbrev pub lent_with : Tables → List ℕ → Lists → Lent
 lent_with new new_kinds words =
-    lent (tables_with new) (continued kinds new_kinds free_kinds) inputs tapes_lent (lists_with words)
+    lent_lists (tables_with new) (with_words kinds new_kinds unfilled_kinds) inputs lent_tapes (lists_with words)
 
 abbrev pub no_shares : Tables
 no_shares = tables [] [] []
 
 -- the run of one command
-abbrev pub run : ℕ → ℕ → ℕ → Outcome
-run code a b = command 5 (asked code a b) start (lent_with no_shares [] silence)
+abbrev pub outcome_at_start : ℕ → ℕ → ℕ → CommandOutcome
+outcome_at_start code a b = command 5 (command_of code a b) start (lent_with no_shares [] silence)
 
 -- a new value: the ten counts of the place record, the shares and the kind, and the words that each party receives;
 -- 0 is answered, and no word is opened
-abbrev pub makes : List ℕ → Shares → ℕ → Lists → Outcome
-makes counts s kind words =
-    outcome (answer 0 (place_of counts) 0)
+abbrev pub outcome_with_value : List ℕ → Shares → ℕ → Lists → CommandOutcome
+outcome_with_value counts s kind words =
+    command_outcome (answer 0 (place_of counts) 0)
     (lent_with (tables (s.one ∷ []) (s.two ∷ []) (s.three ∷ [])) (kind ∷ []) words)
 
 -- an opened word: the ten counts, the word, and the words that each party receives; 0 is answered
-abbrev pub opens : List ℕ → ℕ → Lists → Outcome
-opens counts word words = outcome (answer 0 (place_of counts) word) (lent_with no_shares [] words)
+abbrev pub outcome_with_opened_word : List ℕ → ℕ → Lists → CommandOutcome
+outcome_with_opened_word counts word words =
+    command_outcome (answer 0 (place_of counts) word) (lent_with no_shares [] words)
 """
 RECORD = """\
 -- promised by `worked_runs`: from a place where something is held in each list already, each of the twelve commands
@@ -198,15 +199,15 @@ def field(name, command, text, lists, place):
     assert not numbers
     counts = f"({chain(machine.place[name] for name in PLACES)})"
     if name == "opening":
-        form = f"opens {counts} {opened}"
+        form = f"outcome_with_opened_word {counts} {opened}"
     else:
         assert opened == 0
         one, two, three, kind = (added[table][0] for table in TABLES)
-        form = f"makes {counts} (shares {one} {two} {three}) {kind}"
+        form = f"outcome_with_value {counts} (shares {one} {two} {three}) {kind}"
     received = [added[list_] for list_ in LISTS]
     words = f"(lists\n{arguments(received, '      ')})" if any(received) else "silence"
     code, a, b = command
-    return f"  -- {text}\n  pub {name} : run {code} {a} {b}\n      ≡ {form}\n      {words}"
+    return f"  -- {text}\n  pub {name} : outcome_at_start {code} {a} {b}\n      ≡ {form}\n      {words}"
 
 
 def main():

@@ -1,4 +1,4 @@
-// A case: its lists are read, its commands run, and what they leave is printed.
+//! A case: its lists are read, its commands run, and what they leave is printed.
 use crate::run;
 use crate::run::Supplied;
 use crate::scan::Scanner;
@@ -62,8 +62,8 @@ fn with_lists(out: &mut impl Write, text: &mut Scanner, supplied: Supplied) -> i
     print_list(out, "controller", lists.controller)
 }
 
-// A case begins with the line that names it. The lists that its commands only read stand in one array.
-pub(crate) fn printed(out: &mut impl Write, text: &mut Scanner) -> io::Result<()> {
+// Runs a case, which begins with the line that names it. The lists that its commands only read stand in one array.
+pub(crate) fn run_case(out: &mut impl Write, text: &mut Scanner) -> io::Result<()> {
     out.write_all(text.line())?;
     writeln!(out)?;
     let mut read = [0u32; ROOM];

@@ -1,4 +1,4 @@
-// Runs the cases that tests/command_cases.py writes, and writes what each command answers and what each case leaves.
+//! Runs the cases that tests/command_cases.py writes, and writes what each command answers and what each case leaves.
 #![tactic(auto)]
 
 mod case;
@@ -9,11 +9,11 @@ use scan::Scanner;
 use std::io;
 use std::io::Write;
 
-// The text begins with the number of cases.
-fn cases(out: &mut impl Write, text: &[u8]) -> io::Result<()> {
+// Runs the cases of a text, which begins with their number.
+fn run_cases(out: &mut impl Write, text: &[u8]) -> io::Result<()> {
     let mut text = Scanner::new(text);
     for _ in 0..text.count() {
-        case::printed(out, &mut text)?;
+        case::run_case(out, &mut text)?;
     }
     Ok(())
 }
@@ -21,5 +21,5 @@ fn cases(out: &mut impl Write, text: &[u8]) -> io::Result<()> {
 fn main(rt: HostRuntime) -> io::Result<()> {
     let mut file = [0u8; 400000];
     let n = reading::read_whole(&mut rt.stdin(), &mut file)?;
-    cases(&mut io::writer(&rt), &file[..n])
+    run_cases(&mut io::writer(&rt), &file[..n])
 }

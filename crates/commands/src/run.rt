@@ -1,4 +1,4 @@
-// A case's commands, one after the other, each given what the last one left.
+//! A case's commands, one after the other, each given what the last one left.
 use crate::scan::Scanner;
 use machine::answer::Answer;
 use machine::code::Command;
@@ -16,7 +16,7 @@ pub struct Supplied<'a> {
     pub tapes: Tapes<'a>,
 }
 
-// The next command. Answers the place record that it leaves. (Tables and lists are lent apart, as the machine takes them.)
+// Runs the next command, and answers the place record that it leaves.
 fn step(
     out: &mut impl Write,
     text: &mut Scanner,

@@ -1,5 +1,5 @@
-// Reads the text of the cases: numbers, and words that are there for the reader. (No `parse` of words parted by white space: a number ends
-// where its digits end, one that is too large is still one, and a list goes on over the end of a line.)
+//! Reads the text of the cases: numbers, and words that are there for the reader.
+//! A number ends where its digits end, and a list goes on over the end of a line.
 ghost use Rattle.std.specs.Prelude.{◌≡◌, ◌++◌};
 
 // What is still to be read.
@@ -12,7 +12,7 @@ fn is_space(byte: u8) -> bool {
     byte == b' ' || byte == b'\n'
 }
 
-// One more digit. (Places go up to 2^64 - 1; no number of the text is larger.)
+// A value with one more digit. No number of the text is above 2^64 - 1.
 fn with_digit(value: u64, byte: &u8) -> u64 {
     let digit = u64::from(byte % 16);
     value
@@ -58,7 +58,8 @@ impl<'a> Scanner<'a> {
         self.number() as usize
     }
 
-    // A list: its count, then its words, which are put into the front of the room, as many as it holds. Answers them and the room behind.
+    // A list: its count, then its words, which go to the front of the room, as many as it holds. Answers these and the
+    // room behind them.
     pub(crate) fn list<'b>(&mut self, room: &'b mut [u32]) -> (&'b mut [u32], &'b mut [u32]) {
         let words = self.count().min(room.len());
         let (list, behind) = room.split_at_mut(words);

@@ -1,9 +1,9 @@
-// The command call.
+//! The call of one command.
 ghost use Rattle.std.specs.Prelude.{◌≡◌};
-ghost use Rattle.protocols.specs.Lent.{Same};
+ghost use Rattle.protocols.specs.Lent.{SameLists};
 ghost use Rattle.machine.specs.Table as table;
-ghost use Rattle.machine.specs.Lent.{lent_of, SameTables};
-ghost use Rattle.machine.specs.Command.{outcome};
+ghost use Rattle.machine.specs.Lent.{lent_lists_of, SameTables};
+ghost use Rattle.machine.specs.Command.{command_outcome};
 ghost use Rattle.machine.specs.Command as spec;
 
 use machine::answer::Answer;
@@ -13,6 +13,14 @@ use machine::lent::Tables;
 use protocols::lent::{Lists, Tapes};
 use protocols::place::Place;
 
+/// One command, of the words `code`, `a` and `b`, from the place where the commands before it have come.
+///
+/// Lent are three share tables and the kind list, of one length, with an entry for each handle, and the inputs, the
+/// four tapes and the four received lists, each of any length in words.
+///
+/// The answer's number is 0 or the refusal number, 4 to 13. An accepted command writes the new handle's entry, except
+/// for an open, and each party's words from the place's counts on, and answers the moved place, for the next command,
+/// and the opened word, which is 0 unless it is an open. A refused one writes nothing and answers the same place.
 #[unsafe(no_mangle)]
 pub extern "C" fn dinglefork_command(
     code: u32,
@@ -25,8 +33,10 @@ pub extern "C" fn dinglefork_command(
     lists: &mut Lists,
 ) -> Answer
     ensures same_tables { SameTables tables.old tables.new }
-    ensures same_lists { Same lists.old lists.new }
-    ensures done { outcome result (lent_of tables.new inputs.now tapes.now lists.new) ≡ spec.command 5 (table.command code a b) place.now (lent_of tables.old inputs.now tapes.now lists.old) }
+    ensures same_lists { SameLists lists.old lists.new }
+    ensures done { command_outcome result (lent_lists_of tables.new inputs.now tapes.now lists.new)
+        ≡ spec.command 5 (table.command_of code a b) place.now
+        (lent_lists_of tables.old inputs.now tapes.now lists.old) }
 {
     command::command(Command { code, a, b }, *place, tables, inputs, tapes, lists)
 }

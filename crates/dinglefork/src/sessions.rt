@@ -1,14 +1,15 @@
-// The session call.
+//! The call of a session.
 ghost use Rattle.std.specs.Prelude.{◌≡◌};
-ghost use Rattle.protocols.specs.Lent.{Same};
+ghost use Rattle.protocols.specs.Lent.{SameLists};
 ghost use Rattle.machine.specs.Lent.{SameTables};
-ghost use Rattle.session.specs.Session.{lent_state, outcome};
+ghost use Rattle.session.specs.Session.{lent_state, session_outcome};
 ghost use Rattle.session.specs.Session as spec;
 
 use machine::lent::Tables;
 use protocols::lent::Lists;
-use session::answer::SessionAnswer;
+use session::SessionAnswer;
 
+/// The commands of a session file, as `session::session` runs them: lent, written and answered is the same.
 #[unsafe(no_mangle)]
 pub extern "C" fn dinglefork_session(
     file: &[u8],
@@ -17,8 +18,9 @@ pub extern "C" fn dinglefork_session(
     lists: &mut Lists,
 ) -> SessionAnswer
     ensures same_tables { SameTables tables.old tables.new }
-    ensures same_lists { Same lists.old lists.new }
-    ensures done { outcome result words.new (lent_state tables.new lists.new) ≡ spec.session file.now words.old (lent_state tables.old lists.old) }
+    ensures same_lists { SameLists lists.old lists.new }
+    ensures outcome { session_outcome result words.new (lent_state tables.new lists.new)
+        ≡ spec.session file.now words.old (lent_state tables.old lists.old) }
 {
-    session::session::session(file, words, tables, lists)
+    session::session(file, words, tables, lists)
 }

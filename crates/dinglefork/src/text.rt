@@ -1,15 +1,17 @@
-// What the program `pool` prints, at the front of a buffer; answers the text's length.
-ghost use Rattle.std.specs.Prelude.{◌≡◌, ◌≤◌, length, take};
-ghost use Rattle.protocols.specs.Lent.{Same};
+//! The call of a session with its text.
+ghost use Rattle.std.specs.Prelude.{◌≡◌, ◌≤◌, length, take, drop};
+ghost use Rattle.protocols.specs.Lent.{SameLists};
 ghost use Rattle.machine.specs.Lent.{SameTables};
 ghost use Rattle.session.specs.Session.{lent_state};
-ghost use Rattle.session.specs.Text.{rendered, into};
+ghost use Rattle.session.specs.Text.{pool_outcome};
 ghost use Rattle.session.specs.Text as spec;
 
 use machine::lent::Tables;
 use protocols::lent::Lists;
-use session::pool::TEXT;
+use session::TEXT;
 
+/// The session of a file, with what the program `pool` prints of it at the front of `out`, as `session::pool` has it;
+/// answers the text's length in bytes. The rest of `out` is as it was.
 #[unsafe(no_mangle)]
 pub extern "C" fn dinglefork_pool(
     file: &[u8],
@@ -19,9 +21,11 @@ pub extern "C" fn dinglefork_pool(
     out: &mut [u8; TEXT],
 ) -> usize
     ensures same_tables { SameTables tables.old tables.new }
-    ensures same_lists { Same lists.old lists.new }
-    ensures printed { rendered result out.new words.new (lent_state tables.new lists.new) ≡ into out.old (spec.pool file.now words.old (lent_state tables.old lists.old)) }
-    ensures within { (result ≤ length out.new) × (result ≡ length (take result out.new)) }
+    ensures same_lists { SameLists lists.old lists.new }
+    ensures printed { pool_outcome (take result out.new) words.new (lent_state tables.new lists.new)
+        ≡ spec.pool file.now words.old (lent_state tables.old lists.old) }
+    ensures rest { drop result out.new ≡ drop result out.old }
+    ensures within { result ≤ length out.new }
 {
-    session::pool::pool(file, words, tables, lists, out)
+    session::pool(file, words, tables, lists, out)
 }

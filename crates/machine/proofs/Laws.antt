@@ -1,5 +1,7 @@
 -- Laws of the definitions, one topic to a file.
 pub mod KindTest
+pub mod Part
+pub mod Lawful
 pub mod Accepted
 pub mod Tests
 pub mod Rows
@@ -17,7 +19,7 @@ pub mod OpenedWords
 pub mod ControllerWords
 pub mod Play
 pub mod Tested
-pub mod Supplied
+pub mod Supply
 pub mod Accept
 pub mod Step
 pub mod Blind

@@ -5,80 +5,82 @@ use Rattle.protocols.specs.declared.place.Party.TheVariants.{Provider, One, Two,
 use Rattle.protocols.specs.declared.place.Place.{Place}
 use Rattle.protocols.specs.Shares.{Miner, one, two, three}
 use Rattle.protocols.specs.Place.{tape, owner, rest, Lists, Receiver, miner, list}
-use Rattle.protocols.specs.Counts.{due}
-use Rattle.protocols.specs.Parties.{Process, Sent, connected, connect, for_party}
+use Rattle.protocols.specs.Counts.{count_for}
+use Rattle.protocols.specs.Parties.{Process, SentCounts, connection, connect, for_party}
 use Rattle.protocols.specs.Alone.{alone, sends_of, Agree}
 use Rattle.protocols.specs.Apart.{mixed_tapes}
 use Rattle.machine.specs.declared.code.Command.{Command}
 use Rattle.machine.specs.declared.lent.Sizes.{Sizes}
 use Rattle.machine.specs.Lent.{Lent, tables, sizes, table}
-use Rattle.machine.specs.Run.{Ran, Reply, reply, run, run_to_refusal}
+use Rattle.machine.specs.Run.{RunResult, Reply, reply, run, run_to_refusal}
 use Rattle.machine.specs.Claims.{Appended}
 
--- what a party has of what is lent, beside its tape: the provider the inputs, a miner its share table
+-- a party's own part of what is lent, beside its tape: the provider's are the inputs, a miner's its share table
 abbrev pub own_part : Party → Lent → List ℕ
 own_part Provider l = l.inputs
 own_part One l = l.tables.one
 own_part Two l = l.tables.two
 own_part Three l = l.tables.three
 
--- What each party does in a run, a process made of its own part and its own tape, and what all can tell beforehand.
+-- What each party does in a run: a process made of its own part and its own tape. Beside it stands what is settled
+-- before the run.
 pub record Programs : Type 0 where
   pub rounds : ℕ
   -- how many words are sent, by whom and to whom, in each round
-  pub timetable : List Sent
+  pub timetable : List SentCounts
   pub program : Party → List ℕ → List ℕ → Process rounds (List ℕ)
   -- what each command is answered, and the place record and the kinds at the end
   pub replies : List Reply
   pub place : Place
   pub kinds : List ℕ
 
--- a party's process from the place p, of what is lent to it alone
-abbrev pub started : (P : Programs) → Place → Lent → Party → Process P.rounds (List ℕ)
-started P p l i = P.program i (own_part i l) (tape i (rest p.drawn l.tapes))
+-- a party's process from the place p, made of that party's own part and tape
+abbrev pub process_of : (P : Programs) → Place → Lent → Party → Process P.rounds (List ℕ)
+process_of P p l i = P.program i (own_part i l) (tape i (rest p.drawn l.tapes))
 
--- Four programs come to the run r from the place p, with l lent. (Opened words are the controller's, who adds them up
--- from its received list.)
-pub record ComesTo (P : Programs) (p : Place) (l : Lent) (r : Ran) : Type 0 where
-  -- connected, each party ends with what it has after the run, and these words are sent, by the timetable
+-- Four programs come to the run r from the place p, with l lent. Opened words are not among what they make: the
+-- controller adds them up from its received list.
+pub record ComesTo (P : Programs) (p : Place) (l : Lent) (r : RunResult) : Type 0 where
+  -- connected, the programs send these words by the timetable, and each party ends with its own part after the run
   pub words : Lists
-  pub plays : connect P.rounds (started P p l) ≡ connected (λ i. own_part i r.lent) words P.timetable
-  -- each received list has its words more, and all else of it is as it was
-  pub grown : (i : Receiver) → Appended (list i l.received) (due i p.received) (list i words) (list i r.lent.received)
-  -- what was told beforehand is so
+  pub plays : connect P.rounds (process_of P p l) ≡ connection (λ i. own_part i r.lent) words P.timetable
+  -- each received list has gained its words, and all else of it is as it was
+  pub gain : (i : Receiver)
+      → Appended (list i l.received) (count_for i p.received) (list i words) (list i r.lent.received)
+  -- the replies, the place record and the kinds are those settled before the run
   pub replies : map reply r.answers ≡ P.replies
   pub place : r.place ≡ P.place
   pub kinds : r.lent.kinds ≡ P.kinds
-  -- and no tape is written to
+  -- no tape is written to
   pub tapes : r.lent.tapes ≡ l.tapes
-  -- so each party by itself, on the list of the words that it receives, ends with the same and sends the same
-  pub by_itself : (i : Party) → alone (List ℕ) P.rounds i P.timetable (started P p l i) (for_party i words)
-      ≡ record { ends = own_part i r.lent; sends = sends_of (List ℕ) P.rounds (started P p l) i }
-  -- and no other words agree with what the four send
-  pub only : (w : Lists) → Agree (List ℕ) P.rounds P.timetable (started P p l) w → w ≡ words
+  -- each party by itself, on the list of the words that it receives, ends with the same and sends the same
+  pub by_itself : (i : Party) → alone (List ℕ) P.rounds i P.timetable (process_of P p l i) (for_party i words)
+      ≡ record { ends = own_part i r.lent; sends = sends_of (List ℕ) P.rounds (process_of P p l) i }
+  -- no other words agree with what the four send
+  pub only : (w : Lists) → Agree (List ℕ) P.rounds P.timetable (process_of P p l) w → w ≡ words
 
--- Four programs come to each run from the place p of whatever is lent that has the lengths z and the kinds k: they are
--- settled by these, the place and the commands, and by nothing that a party has.
-abbrev pub Apart : (Place → Lent → Ran) → Place → Sizes → List ℕ → Type 0
-Apart runs p z k = (P : Programs) × ((l : Lent) → sizes l ≡ z → l.kinds ≡ k → ComesTo P p l (runs p l))
+-- There are four programs that come to each run from the place p on whatever is lent of the lengths z and the kinds k.
+-- They depend on the commands, the place, the lengths and the kinds, and on nothing that a party has.
+abbrev pub HasPrograms : (Place → Lent → RunResult) → Place → Sizes → List ℕ → Type 0
+HasPrograms runs p z k = (P : Programs) × ((l : Lent) → sizes l ≡ z → l.kinds ≡ k → ComesTo P p l (runs p l))
 
 -- promised by `runs_apart`: every list of commands is run by parties apart, past refusals and up to the first one
 pub record RunsApart (n : ℕ) (cs : List Command) (p : Place) (z : Sizes) (k : List ℕ) : Type 0 where
-  pub past_refusals : Apart (run n cs) p z k
-  pub to_refusal : Apart (run_to_refusal n cs) p z k
+  pub past_refusals : HasPrograms (run n cs) p z k
+  pub to_refusal : HasPrograms (run_to_refusal n cs) p z k
 
--- promised by `same_view`: of runs by parties apart, a miner that has the same table in two runs, the same tape and the
--- same received list after them has the same table after both
-abbrev pub SameView : (Place → Lent → Ran) → Place → Sizes → List ℕ → Type 0
-SameView runs p z k = (i : Miner) (l l' : Lent)
+-- promised by `same_run_view`: of runs by parties apart, a miner that has the same table in two runs, the same tape and
+-- the same received list after them has the same table after both
+abbrev pub SameRunView : (Place → Lent → RunResult) → Place → Sizes → List ℕ → Type 0
+SameRunView runs p z k = (i : Miner) (l l' : Lent)
     → sizes l ≡ z → sizes l' ≡ z → l.kinds ≡ k → l'.kinds ≡ k
     → table i l.tables ≡ table i l'.tables → tape (owner i) l.tapes ≡ tape (owner i) l'.tapes
     → list (miner i) (runs p l).lent.received ≡ list (miner i) (runs p l').lent.received
     → table i (runs p l).lent.tables ≡ table i (runs p l').lent.tables
 
--- what is lent, with each party's part that of l or that of l'; all else is as in l
-abbrev pub mixed : (Party → Bool) → Lent → Lent → Lent
-mixed first l l' =
+-- what is lent, where each party has its own part of l or of l'; all else is as in l
+abbrev pub mixed_lent : (Party → Bool) → Lent → Lent → Lent
+mixed_lent first l l' =
     let its = λ (i : Miner). cond (first (owner i)) (table i l.tables) (table i l'.tables) in
     record l {
       tables = tables (its one) (its two) (its three);
@@ -88,9 +90,9 @@ mixed first l l' =
 
 -- promised by `mixed_runs`: of runs by parties apart, where two leave the same received lists, so does each run in
 -- which every party has its part of the one or of the other, and each miner ends with the table that it has in that one
-pub record MixedRuns (runs : Place → Lent → Ran) (p : Place) (l l' : Lent) (first : Party → Bool) : Type 0 where
+pub record MixedRuns (runs : Place → Lent → RunResult) (p : Place) (l l' : Lent) (first : Party → Bool) : Type 0 where
   pub received : (runs p l).lent.received ≡ (runs p l').lent.received
-      → (runs p (mixed first l l')).lent.received ≡ (runs p l).lent.received
+      → (runs p (mixed_lent first l l')).lent.received ≡ (runs p l).lent.received
   pub tables : (runs p l).lent.received ≡ (runs p l').lent.received
-      → (i : Miner) → table i (runs p (mixed first l l')).lent.tables
+      → (i : Miner) → table i (runs p (mixed_lent first l l')).lent.tables
       ≡ cond (first (owner i)) (table i (runs p l).lent.tables) (table i (runs p l').lent.tables)

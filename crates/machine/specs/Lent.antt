@@ -1,4 +1,4 @@
--- What is lent to a command. (01, 'Handles, tapes and places')
+-- What is lent to a command.
 use Rattle.std.specs.Prelude.{ℕ, ◌≡◌, ◌-◌, ◌≤◌, List, length, get_or, take}
 use Rattle.protocols.specs.declared.place.Drawn.{Drawn}
 use Rattle.protocols.specs.declared.place.Party.{Party}
@@ -6,8 +6,8 @@ use Rattle.protocols.specs.declared.place.Place.{Place}
 use Rattle.protocols.specs.declared.shares.Shares.{Shares}
 use Rattle.protocols.specs.Shares.{Miner, one, two, three, shares}
 use Rattle.protocols.specs.Place.{Tapes, tape, counts, Lists, Receiver, list}
-use Rattle.protocols.specs.Counts.{list_lengths, due}
-use Rattle.protocols.specs.Contents.{Below}
+use Rattle.protocols.specs.Counts.{list_lengths, count_for}
+use Rattle.protocols.specs.Contents.{AllBelow}
 use Rattle.protocols.specs.declared.lent.Lists as code_lists
 use Rattle.protocols.specs.declared.lent.Tapes as code_tapes
 use Rattle.protocols.specs.Lent.{tapes_of, lists_of}
@@ -29,7 +29,7 @@ table one t = t.one
 table two t = t.two
 table three t = t.three
 
--- 'three share tables, a kind list, the inputs, four tapes and four lists of received words'
+-- all that is lent: three share tables, a kind list, the inputs, four tapes and four lists of received words
 pub record Lent : Type 0 where
   pub tables : Tables
   pub kinds : List ℕ
@@ -37,16 +37,16 @@ pub record Lent : Type 0 where
   pub tapes : Tapes
   pub received : Lists
 
-abbrev pub lent : Tables → List ℕ → List ℕ → Tapes → Lists → Lent
-lent t k i s r = record { tables = t; kinds = k; inputs = i; tapes = s; received = r }
+abbrev pub lent_lists : Tables → List ℕ → List ℕ → Tapes → Lists → Lent
+lent_lists t k i s r = record { tables = t; kinds = k; inputs = i; tapes = s; received = r }
 
--- ---- as the code holds it
+-- ---- the same, from what the code is lent
 
 abbrev pub tables_of : code_tables.Tables → Tables
 tables_of t = tables t.one.now t.two.now t.three.now
 
-abbrev pub lent_of : code_tables.Tables → List ℕ → code_tapes.Tapes → code_lists.Lists → Lent
-lent_of t inputs s r = lent (tables_of t) t.kinds.now inputs (tapes_of s) (lists_of r)
+abbrev pub lent_lists_of : code_tables.Tables → List ℕ → code_tapes.Tapes → code_lists.Lists → Lent
+lent_lists_of t inputs s r = lent_lists (tables_of t) t.kinds.now inputs (tapes_of s) (lists_of r)
 
 -- the same three tables and kind list are lent, whatever stands in them
 abbrev pub SameTables : code_tables.Tables → code_tables.Tables → Type 0
@@ -56,12 +56,12 @@ SameTables a b =
     × (b.three.ghost_name ≡ a.three.ghost_name)
     × (b.kinds.ghost_name ≡ a.kinds.ghost_name)
 
--- ---- what is public of it: the lengths, and the kinds
+-- ---- the lengths, which are public as the kinds are
 
 abbrev pub tape_lengths : Tapes → Drawn
 tape_lengths t = counts (length t.provider) (length t.one) (length t.two) (length t.three)
 
--- the tapes' lengths are d
+-- the lengths of all lent lists, with d for those of the tapes
 abbrev pub lengths : Tables → List ℕ → List ℕ → Drawn → Lists → Sizes
 lengths t k i d r = record {
   one = length t.one;
@@ -78,28 +78,30 @@ sizes l = lengths l.tables l.kinds l.inputs (tape_lengths l.tapes) l.received
 
 -- ---- handles
 
--- 'A handle is a number from 1 upward': the entry of handle h
+-- the entry of the handle h: handles count from 1, entries from 0
 abbrev pub entry : List ℕ → ℕ → ℕ
 entry t h = get_or t (h - 1) 0
 
 abbrev pub shares_at : Tables → ℕ → Shares
 shares_at t h = shares (entry t.one h) (entry t.two h) (entry t.three h)
 
--- a filled handle
-abbrev pub Filled : Place → ℕ → Type 0
-Filled p h = (1 ≤ h) × (h ≤ p.handles)
+-- the handle h is filled at the place p
+abbrev pub IsFilled : Place → ℕ → Type 0
+IsFilled p h = (1 ≤ h) × (h ≤ p.handles)
 
--- ---- what is filled
+-- ---- what is filled by a place
 
+-- miner i's shares of the filled handles
 abbrev pub filled_shares : Place → Lent → Miner → List ℕ
 filled_shares p l i = take p.handles (table i l.tables)
 
+-- the words that the receiver r has
 abbrev pub received_words : Place → Lent → Receiver → List ℕ
-received_words p l r = take (due r p.received) (list r l.received)
+received_words p l r = take (count_for r p.received) (list r l.received)
 
--- what is filled, and all that is read, is below m; what is not filled is any number
-pub record AreWords (m : ℕ) (p : Place) (l : Lent) : Type 0 where
-  pub shares : (i : Miner) → Below m (filled_shares p l i)
-  pub inputs : Below m l.inputs
-  pub tapes : (i : Party) → Below m (tape i l.tapes)
-  pub received : (r : Receiver) → Below m (received_words p l r)
+-- All inputs, all tapes and what is filled are below m. What is not filled may be any number.
+pub record LentAreWords (m : ℕ) (p : Place) (l : Lent) : Type 0 where
+  pub shares : (i : Miner) → AllBelow m (filled_shares p l i)
+  pub inputs : AllBelow m l.inputs
+  pub tapes : (i : Party) → AllBelow m (tape i l.tapes)
+  pub received : (r : Receiver) → AllBelow m (received_words p l r)

@@ -1,4 +1,4 @@
--- Tapes that pair off: a one-to-one matching that takes all contents of their lengths onto all of them.
+-- Tapes that pair off: a one-to-one map of all contents of their lengths onto all of them.
 use Rattle.std.specs.Prelude.{◌≡◌}
 use Rattle.protocols.specs.Place.{Tapes}
 

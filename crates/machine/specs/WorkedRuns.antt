@@ -5,9 +5,9 @@ use Rattle.protocols.specs.declared.place.Place.{Place}
 use Rattle.protocols.specs.declared.shares.Shares.{Shares}
 use Rattle.protocols.specs.Shares.{shares}
 use Rattle.protocols.specs.Place.{Tapes, tapes, Lists, lists, silence, place_of}
-use Rattle.machine.specs.Table.{command as asked}
-use Rattle.machine.specs.Lent.{Tables, tables, Lent, lent}
-use Rattle.machine.specs.Command.{Outcome, answer, outcome, command}
+use Rattle.machine.specs.Table.{command_of}
+use Rattle.machine.specs.Lent.{Tables, tables, Lent, lent_lists}
+use Rattle.machine.specs.Command.{CommandOutcome, answer, command_outcome, command}
 
 -- ---- what is lent to each run
 
@@ -23,22 +23,22 @@ abbrev pub kinds : List ℕ
 kinds = 1 ∷ 1 ∷ 2 ∷ 1 ∷ []
 
 -- what stands in the two entries that are not filled
-abbrev pub free : Tables
-free = tables
+abbrev pub unfilled_entries : Tables
+unfilled_entries = tables
     (101 ∷ 102 ∷ [])
     (201 ∷ 202 ∷ [])
     (301 ∷ 302 ∷ [])
 
-abbrev pub free_kinds : List ℕ
-free_kinds = 401 ∷ 402 ∷ []
+abbrev pub unfilled_kinds : List ℕ
+unfilled_kinds = 401 ∷ 402 ∷ []
 
 -- one input is used
 abbrev pub inputs : List ℕ
 inputs = 2556197129 ∷ 4231773835 ∷ 724786556 ∷ []
 
 -- 1, 2, 3 and 4 words are drawn
-abbrev pub tapes_lent : Tapes
-tapes_lent = tapes
+abbrev pub lent_tapes : Tapes
+lent_tapes = tapes
     (2095453060 ∷ 1159062092 ∷ 3068550658 ∷ 1161288644 ∷ [])
     (1867626727 ∷ 2421160914 ∷ 3081523188 ∷ 3150062613 ∷ 3976157109 ∷ 1950647909 ∷ 1101079725 ∷ 3188679412 ∷
     3385649106 ∷ 1461414398 ∷ 2822622013 ∷ 3892190625 ∷ 258640728 ∷ 1583729548 ∷ 622019367 ∷ 3560376372 ∷
@@ -50,16 +50,16 @@ tapes_lent = tapes
     2604582127 ∷ [])
 
 -- the words that were received before
-abbrev pub received_before : Lists
-received_before = lists
+abbrev pub words_before : Lists
+words_before = lists
     (1412448972 ∷ [])
     (1436907217 ∷ 3628408838 ∷ [])
     (1674281602 ∷ 2309878713 ∷ 1154898613 ∷ 51704690 ∷ [])
     (2143313780 ∷ 2009867087 ∷ 4232481856 ∷ [])
 
 -- what stands in the unfilled part of each list
-abbrev pub unfilled : Lists
-unfilled = lists
+abbrev pub unfilled_parts : Lists
+unfilled_parts = lists
     (501 ∷ 502 ∷ 503 ∷ 504 ∷ 505 ∷ 506 ∷ 507 ∷ 508 ∷
     509 ∷ 510 ∷ 511 ∷ 512 ∷ 513 ∷ 514 ∷ 515 ∷ 516 ∷
     517 ∷ 518 ∷ 519 ∷ 520 ∷ 521 ∷ 522 ∷ 523 ∷ [])
@@ -81,43 +81,44 @@ start = place_of (4 ∷ 1 ∷ 1 ∷ 2 ∷ 3 ∷ 4 ∷ 1 ∷ 2 ∷ 4 ∷ 3 ∷ []
 -- ---- a run, and what it leaves
 
 -- a list: the words that it held, new words after them, and the rest of it as it was
-abbrev pub continued : List ℕ → List ℕ → List ℕ → List ℕ
-continued held words beyond = held ++ (words ++ drop (length words) beyond)
+abbrev pub with_words : List ℕ → List ℕ → List ℕ → List ℕ
+with_words held words beyond = held ++ (words ++ drop (length words) beyond)
 
 abbrev pub tables_with : Tables → Tables
 tables_with new =
-    tables (continued values.one new.one free.one) (continued values.two new.two free.two)
-    (continued values.three new.three free.three)
+    tables (with_words values.one new.one unfilled_entries.one) (with_words values.two new.two unfilled_entries.two)
+    (with_words values.three new.three unfilled_entries.three)
 
 abbrev pub lists_with : Lists → Lists
 lists_with words =
-    let before = received_before in
-    lists (continued before.one words.one unfilled.one) (continued before.two words.two unfilled.two)
-    (continued before.three words.three unfilled.three)
-    (continued before.controller words.controller unfilled.controller)
+    let before = words_before in
+    lists (with_words before.one words.one unfilled_parts.one) (with_words before.two words.two unfilled_parts.two)
+    (with_words before.three words.three unfilled_parts.three)
+    (with_words before.controller words.controller unfilled_parts.controller)
 
 -- all that is lent, with new shares and kinds, and with words that the parties receive
 abbrev pub lent_with : Tables → List ℕ → Lists → Lent
 lent_with new new_kinds words =
-    lent (tables_with new) (continued kinds new_kinds free_kinds) inputs tapes_lent (lists_with words)
+    lent_lists (tables_with new) (with_words kinds new_kinds unfilled_kinds) inputs lent_tapes (lists_with words)
 
 abbrev pub no_shares : Tables
 no_shares = tables [] [] []
 
 -- the run of one command
-abbrev pub run : ℕ → ℕ → ℕ → Outcome
-run code a b = command 5 (asked code a b) start (lent_with no_shares [] silence)
+abbrev pub outcome_at_start : ℕ → ℕ → ℕ → CommandOutcome
+outcome_at_start code a b = command 5 (command_of code a b) start (lent_with no_shares [] silence)
 
 -- a new value: the ten counts of the place record, the shares and the kind, and the words that each party receives;
 -- 0 is answered, and no word is opened
-abbrev pub makes : List ℕ → Shares → ℕ → Lists → Outcome
-makes counts s kind words =
-    outcome (answer 0 (place_of counts) 0)
+abbrev pub outcome_with_value : List ℕ → Shares → ℕ → Lists → CommandOutcome
+outcome_with_value counts s kind words =
+    command_outcome (answer 0 (place_of counts) 0)
     (lent_with (tables (s.one ∷ []) (s.two ∷ []) (s.three ∷ [])) (kind ∷ []) words)
 
 -- an opened word: the ten counts, the word, and the words that each party receives; 0 is answered
-abbrev pub opens : List ℕ → ℕ → Lists → Outcome
-opens counts word words = outcome (answer 0 (place_of counts) word) (lent_with no_shares [] words)
+abbrev pub outcome_with_opened_word : List ℕ → ℕ → Lists → CommandOutcome
+outcome_with_opened_word counts word words =
+    command_outcome (answer 0 (place_of counts) word) (lent_with no_shares [] words)
 
 -- promised by `worked_runs`: from a place where something is held in each list already, each of the twelve commands
 -- takes exactly the next words of the tapes, answers exactly these counts and this opened word, writes exactly these
@@ -125,48 +126,48 @@ opens counts word words = outcome (answer 0 (place_of counts) word) (lent_with n
 -- party's list; all else stays as it was.
 pub record WorkedRuns : Type 0 where
   -- the next input, shared
-  pub store : run 1 0 0
-      ≡ makes (5 ∷ 2 ∷ 3 ∷ 2 ∷ 3 ∷ 4 ∷ 2 ∷ 3 ∷ 5 ∷ 3 ∷ []) (shares 1159062092 3068550658 4161085) 1
+  pub store : outcome_at_start 1 0 0
+      ≡ outcome_with_value (5 ∷ 2 ∷ 3 ∷ 2 ∷ 3 ∷ 4 ∷ 2 ∷ 3 ∷ 5 ∷ 3 ∷ []) (shares 1159062092 3068550658 4161085) 1
       (lists
       (1159062092 ∷ [])
       (3068550658 ∷ [])
       (4161085 ∷ [])
       [])
   -- the sum of the first two values
-  pub add : run 2 1 2
-      ≡ makes (5 ∷ 1 ∷ 1 ∷ 2 ∷ 3 ∷ 4 ∷ 1 ∷ 2 ∷ 4 ∷ 3 ∷ []) (shares 2227560560 2671289124 3993744072) 1
+  pub add : outcome_at_start 2 1 2
+      ≡ outcome_with_value (5 ∷ 1 ∷ 1 ∷ 2 ∷ 3 ∷ 4 ∷ 1 ∷ 2 ∷ 4 ∷ 3 ∷ []) (shares 2227560560 2671289124 3993744072) 1
       silence
   -- the first value less the second
-  pub subtract : run 3 1 2
-      ≡ makes (5 ∷ 1 ∷ 1 ∷ 2 ∷ 3 ∷ 4 ∷ 1 ∷ 2 ∷ 4 ∷ 3 ∷ []) (shares 4168428880 133779298 1201232238) 1
+  pub subtract : outcome_at_start 3 1 2
+      ≡ outcome_with_value (5 ∷ 1 ∷ 1 ∷ 2 ∷ 3 ∷ 4 ∷ 1 ∷ 2 ∷ 4 ∷ 3 ∷ []) (shares 4168428880 133779298 1201232238) 1
       silence
   -- the first value and a constant
-  pub add_constant : run 4 1 2779096485
-      ≡ makes (5 ∷ 1 ∷ 1 ∷ 2 ∷ 3 ∷ 4 ∷ 1 ∷ 2 ∷ 4 ∷ 3 ∷ []) (shares 3829607557 3550017859 450004507) 1
+  pub add_constant : outcome_at_start 4 1 2779096485
+      ≡ outcome_with_value (5 ∷ 1 ∷ 1 ∷ 2 ∷ 3 ∷ 4 ∷ 1 ∷ 2 ∷ 4 ∷ 3 ∷ []) (shares 3829607557 3550017859 450004507) 1
       silence
   -- the second value times a constant
-  pub times_constant : run 5 2 3735928559
-      ≡ makes (5 ∷ 1 ∷ 1 ∷ 2 ∷ 3 ∷ 4 ∷ 1 ∷ 2 ∷ 4 ∷ 3 ∷ []) (shares 3631512944 2234619663 3631356803) 1
+  pub times_constant : outcome_at_start 5 2 3735928559
+      ≡ outcome_with_value (5 ∷ 1 ∷ 1 ∷ 2 ∷ 3 ∷ 4 ∷ 1 ∷ 2 ∷ 4 ∷ 3 ∷ []) (shares 3631512944 2234619663 3631356803) 1
       silence
   -- the product of the first two values
-  pub multiply : run 6 1 2
-      ≡ makes (5 ∷ 1 ∷ 1 ∷ 4 ∷ 5 ∷ 6 ∷ 5 ∷ 6 ∷ 8 ∷ 3 ∷ []) (shares 439692657 1518711771 4290607608) 1
+  pub multiply : outcome_at_start 6 1 2
+      ≡ outcome_with_value (5 ∷ 1 ∷ 1 ∷ 4 ∷ 5 ∷ 6 ∷ 5 ∷ 6 ∷ 8 ∷ 3 ∷ []) (shares 439692657 1518711771 4290607608) 1
       (lists
       (303690780 ∷ 4024594498 ∷ 2214211867 ∷ 471053693 ∷ [])
       (3081523188 ∷ 3150062613 ∷ 3828343480 ∷ 302517603 ∷ [])
       (2834450716 ∷ 2802313074 ∷ 3302945387 ∷ 3068489022 ∷ [])
       [])
   -- the second value, shared anew
-  pub reshare : run 7 2 0
-      ≡ makes (5 ∷ 1 ∷ 1 ∷ 3 ∷ 4 ∷ 5 ∷ 2 ∷ 3 ∷ 5 ∷ 3 ∷ []) (shares 3954881896 3169166089 1012979629) 1
+  pub reshare : outcome_at_start 7 2 0
+      ≡ outcome_with_value (5 ∷ 1 ∷ 1 ∷ 3 ∷ 4 ∷ 5 ∷ 2 ∷ 3 ∷ 5 ∷ 3 ∷ []) (shares 3954881896 3169166089 1012979629) 1
       (lists
       (303690780 ∷ [])
       (3081523188 ∷ [])
       (2834450716 ∷ [])
       [])
   -- the first value as a bit word
-  pub bits : run 8 1 0
-      ≡ makes (5 ∷ 1 ∷ 1 ∷ 17 ∷ 15 ∷ 16 ∷ 23 ∷ 27 ∷ 29 ∷ 3 ∷ []) (shares 4957144 3245756381 3962890811) 2
+  pub bits : outcome_at_start 8 1 0
+      ≡ outcome_with_value (5 ∷ 1 ∷ 1 ∷ 17 ∷ 15 ∷ 16 ∷ 23 ∷ 27 ∷ 29 ∷ 3 ∷ []) (shares 4957144 3245756381 3962890811) 2
       (lists
       (303690780 ∷ 4024594498 ∷ 3786974529 ∷ 431327088 ∷ 1294631765 ∷ 1615423899 ∷ 3940203822 ∷ 2611954911 ∷
       797978777 ∷ 452920875 ∷ 1823337886 ∷ 3759883018 ∷ 294908848 ∷ 578175824 ∷ 3188349662 ∷ 3780533762 ∷
@@ -181,16 +182,16 @@ pub record WorkedRuns : Type 0 where
       1167338083 ∷ [])
       [])
   -- the highest bit of the third, which is 1
-  pub bit : run 9 3 31
-      ≡ makes (5 ∷ 1 ∷ 1 ∷ 5 ∷ 3 ∷ 4 ∷ 1 ∷ 5 ∷ 7 ∷ 3 ∷ []) (shares 0 1144904684 3150062612) 1
+  pub bit : outcome_at_start 9 3 31
+      ≡ outcome_with_value (5 ∷ 1 ∷ 1 ∷ 5 ∷ 3 ∷ 4 ∷ 1 ∷ 5 ∷ 7 ∷ 3 ∷ []) (shares 0 1144904684 3150062612) 1
       (lists
       []
       (3150062613 ∷ 1 ∷ 1 ∷ [])
       (1144904684 ∷ 1 ∷ 0 ∷ [])
       [])
   -- 1, since the first and the fourth are equal
-  pub equal : run 10 1 4
-      ≡ makes (5 ∷ 1 ∷ 1 ∷ 12 ∷ 9 ∷ 10 ∷ 12 ∷ 17 ∷ 19 ∷ 3 ∷ []) (shares 0 1472345284 2822622013) 1
+  pub equal : outcome_at_start 10 1 4
+      ≡ outcome_with_value (5 ∷ 1 ∷ 1 ∷ 12 ∷ 9 ∷ 10 ∷ 12 ∷ 17 ∷ 19 ∷ 3 ∷ []) (shares 0 1472345284 2822622013) 1
       (lists
       (303690780 ∷ 137111066 ∷ 4024594498 ∷ 1088267579 ∷ 1294631765 ∷ 4212004822 ∷ 1615423899 ∷ 1486651128 ∷
       797978777 ∷ 3672895108 ∷ 452920875 ∷ [])
@@ -200,16 +201,16 @@ pub record WorkedRuns : Type 0 where
       3151807489 ∷ 2917638373 ∷ 2822047248 ∷ 1703611890 ∷ 1472345283 ∷ 1 ∷ 0 ∷ [])
       [])
   -- the second value, opened
-  pub opening : run 11 2 0
-      ≡ opens (4 ∷ 1 ∷ 1 ∷ 3 ∷ 4 ∷ 5 ∷ 2 ∷ 3 ∷ 5 ∷ 6 ∷ []) 3842060318
+  pub opening : outcome_at_start 11 2 0
+      ≡ outcome_with_opened_word (4 ∷ 1 ∷ 1 ∷ 3 ∷ 4 ∷ 5 ∷ 2 ∷ 3 ∷ 5 ∷ 6 ∷ []) 3842060318
       (lists
       (303690780 ∷ [])
       (3081523188 ∷ [])
       (2834450716 ∷ [])
       (3954881896 ∷ 3169166089 ∷ 1012979629 ∷ []))
   -- 1, since the first value is below the second
-  pub below : run 12 1 2
-      ≡ makes (5 ∷ 1 ∷ 1 ∷ 20 ∷ 15 ∷ 16 ∷ 23 ∷ 30 ∷ 32 ∷ 3 ∷ []) (shares 0 2973537174 1321430122) 1
+  pub below : outcome_at_start 12 1 2
+      ≡ outcome_with_value (5 ∷ 1 ∷ 1 ∷ 20 ∷ 15 ∷ 16 ∷ 23 ∷ 30 ∷ 32 ∷ 3 ∷ []) (shares 0 2973537174 1321430122) 1
       (lists
       (303690780 ∷ 4024594498 ∷ 3786974529 ∷ 1488361264 ∷ 1294631765 ∷ 1615423899 ∷ 3939671340 ∷ 2057589823 ∷
       797978777 ∷ 452920875 ∷ 2694909276 ∷ 3306214374 ∷ 294908848 ∷ 578175824 ∷ 2462468668 ∷ 1681731246 ∷

@@ -1,36 +1,35 @@
-// An accepted command, but for what its protocol still turns down: a spent tape, a full list.
-ghost use Rattle.std.specs.Prelude.{◌≡◌, ◌+◌, ◌<◌, ◌^◌, Ok, None};
+//! A command that passed the tests 4 to 11: its protocol is played, and what it makes is written.
+ghost use Rattle.std.specs.Prelude.{◌≡◌, ◌+◌};
 ghost use Rattle.protocols.specs.Place.{lists};
 ghost use Rattle.protocols.specs.Protocol.{perform};
-ghost use Rattle.protocols.specs.Outcome.{outcome, delivered, delivery};
-ghost use Rattle.protocols.specs.Lent.{tapes_of, Same};
+ghost use Rattle.protocols.specs.Outcome.{outcome, delivery_of, delivery};
+ghost use Rattle.protocols.specs.Lent.{tapes_of, SameLists};
 ghost use Rattle.machine.specs.Table.{row};
-ghost use Rattle.machine.specs.Lent.{tables_of, lent_of, SameTables, sizes};
-ghost use Rattle.machine.specs.Verdict.{supplied};
+ghost use Rattle.machine.specs.Lent.{tables_of, lent_lists_of, SameTables, sizes};
+ghost use Rattle.machine.specs.Verdict.{supply_verdict};
 ghost use Rattle.machine.specs.Verdict as verdict;
 ghost use Rattle.machine.specs.Steps.{protocol};
-ghost use Rattle.machine.specs.Command.{answer, answer_of, decided};
+ghost use Rattle.machine.specs.Command.{answer_of, verdict_outcome};
 ghost use Rattle.machine.specs.Command as command;
-ghost use Rattle.machine.specs.Accept.{Begun, HaveEntries, Fits, left, stored_of, append, one_more};
-ghost use Rattle.machine.specs.Accept as spec;
+ghost use Rattle.machine.specs.Private.Accept.{IsReady, HaveEntries, Fits, store_outcome, table_entries_of};
+ghost use Rattle.machine.specs.Private.Accept as spec;
 
 use super::answer::Accepted;
-use super::code::{Code, Command};
-use super::given::Given;
-use super::kind::Kind;
+use super::arguments::Arguments;
+use super::code::Command;
 use super::lent::Tables;
+use super::operation::Operation;
 use super::refusal::Refusal;
 use super::row::Row;
-use super::{play, row};
 use protocols::lent::{Lists, Tapes};
 use protocols::open;
 use protocols::outcome::{Done, Shortage};
 use protocols::place::Place;
 use protocols::shares::Shares;
 
-// The opened word: only an open has words for the controller.
-fn opened(x: Row, s: Shares) -> u32
-    ensures { result ≡ command.opened 5 x s }
+// The opened word, 0 of any command but an open: only an open has words for the controller.
+fn opened_word(x: Row, s: Shares) -> u32
+    ensures { result ≡ command.opened_word 5 x s }
 {
     let received = x.received;
     if 0 < received.controller {
@@ -39,22 +38,8 @@ fn opened(x: Row, s: Shares) -> u32
     0
 }
 
-// A ring value that the miners made alone becomes the new handle's.
-#[tactic(auto, using(crate::proofs::Laws::Accept::one_more_fits))]
-#[inline(always)]
-fn store_value(shares: Shares, place: Place, tables: &mut Tables) -> Accepted
-    requires { (place.handles + 1 < 2 ^ 64) × HaveEntries (place.handles + 1) (tables_of tables.old) tables.old.kinds.now }
-    ensures same { SameTables tables.old tables.new }
-    ensures left { left (answer_of place (Ok result)) (stored_of tables.new) ≡ left (answer 0 (one_more place) 0) (append 1 place.handles shares Kind.RingValue (tables_of tables.old) tables.old.kinds.now) }
-{
-    tables.store(1, place.handles, shares, Kind::RingValue);
-    Accepted {
-        place: place.with_handles(1),
-        opened: 0,
-    }
-}
-
-// What a protocol made becomes the new handle's, if one is due; what it turned down changes nothing.
+// Writes the shares that the protocol made into the new handle's entries, if a value is due. Where the protocol lacked
+// words or room, nothing changes.
 #[tactic(auto, using(crate::proofs::Laws::Accept::counted_fits))]
 #[inline(always)]
 fn finish(
@@ -63,24 +48,26 @@ fn finish(
     played: Result<Done, Shortage>,
     tables: &mut Tables,
 ) -> Result<Accepted, Refusal>
-    requires { ((outcome place played).number ≡ 0 → Fits (outcome place played).place x) × HaveEntries (place.handles + x.values) (tables_of tables.old) tables.old.kinds.now }
+    requires fits { (outcome place played).number ≡ 0 → Fits (outcome place played).place x }
+    requires entries { HaveEntries (place.handles + x.values) (tables_of tables.old) tables.old.kinds.now }
     ensures same { SameTables tables.old tables.new }
-    ensures left { left (answer_of place result) (stored_of tables.new) ≡ spec.finish x place (outcome place played) (tables_of tables.old) tables.old.kinds.now }
+    ensures outcome { store_outcome (answer_of place result) (table_entries_of tables.new)
+        ≡ spec.outcome_after_protocol x place (outcome place played) (tables_of tables.old) tables.old.kinds.now }
 {
     let done = played?;
     tables.store(x.values, place.handles, done.shares, x.kind);
     Ok(Accepted {
         place: done.place.with_more(x.values, x.inputs, x.received),
-        opened: opened(x, done.shares),
+        opened: opened_word(x, done.shares),
     })
 }
 
-// On lists that are lent one by one, as the parts of lent lists are. (The check's borrow rules do not cover a struct of such parts that is
-// made where they are cut.)
-fn play_on<const CALLER: usize, const CODE: usize>(
-    code: Code,
+// Plays the protocol on lists that are lent one by one: the borrow rules do not cover a struct of unfilled parts that
+// is made where they are cut from the lists.
+#[inline(always)]
+fn play_by_list<O: Operation>(
     c: Command,
-    g: Given,
+    g: Arguments,
     place: Place,
     tapes: &Tapes,
     one: &mut [u32],
@@ -88,8 +75,9 @@ fn play_on<const CALLER: usize, const CODE: usize>(
     three: &mut [u32],
     controller: &mut [u32],
 ) -> Result<Done, Shortage>
-    requires { spec.alone code c.b g ≡ None }
-    ensures { delivered (outcome place result) (lists one.new two.new three.new controller.new) ≡ delivery place (perform (protocol 5 code c.b) g place (tapes_of tapes.now)) (lists one.old two.old three.old controller.old) }
+    ensures { let performed = perform (protocol 5 O.code c.b) g place (tapes_of tapes.now) in
+        delivery_of (outcome place result) (lists one.new two.new three.new controller.new)
+        ≡ delivery place performed (lists one.old two.old three.old controller.old) }
 {
     let mut lists = Lists {
         one,
@@ -97,12 +85,12 @@ fn play_on<const CALLER: usize, const CODE: usize>(
         three,
         controller,
     };
-    play::play_jointly::<CALLER, CODE>(code, c.b, g, place, tapes, &mut lists)
+    O::play(c.b, g, place, tapes, &mut lists)
 }
 
-// The protocol's words go into the unfilled part of each list, its shares become the new handle's.
-pub(crate) fn accept<const CALLER: usize, const CODE: usize>(
-    code: Code,
+// Plays the protocol on the unfilled part of each list, and writes the new handle's entries.
+#[inline(always)]
+pub(crate) fn accept<O: Operation>(
     c: Command,
     place: Place,
     tables: &mut Tables,
@@ -110,19 +98,17 @@ pub(crate) fn accept<const CALLER: usize, const CODE: usize>(
     tapes: &Tapes,
     lists: &mut Lists,
 ) -> Result<Accepted, Refusal>
-    requires { Begun code c place (lent_of tables.old inputs.now tapes.now lists.old) }
+    requires { IsReady O.code c place (lent_lists_of tables.old inputs.now tapes.now lists.old) }
     ensures same_tables { SameTables tables.old tables.new }
-    ensures same_lists { Same lists.old lists.new }
-    ensures decided { let l = lent_of tables.old inputs.now tapes.now lists.old in command.outcome (answer_of place result) (lent_of tables.new inputs.now tapes.now lists.new) ≡ decided 5 (supplied (row 5 code) place (sizes l) (verdict.Accepted code)) c place l }
+    ensures same_lists { SameLists lists.old lists.new }
+    ensures decided { let l = lent_lists_of tables.old inputs.now tapes.now lists.old in
+        command.command_outcome (answer_of place result) (lent_lists_of tables.new inputs.now tapes.now lists.new)
+        ≡ verdict_outcome 5 (supply_verdict (row 5 O.code) place (sizes l) (verdict.Accepted O.code)) c place l }
 {
-    let x = row::of(code);
-    let g = tables.given(x, c, place, inputs);
-    if let Some(shares) = play::make_alone(code, c.b, g) {
-        return Ok(store_value(shares, place, tables));
-    }
+    let x = O::row();
+    let g = tables.arguments(x, c, place, inputs);
     let at = place.received;
-    let played = play_on::<CALLER, CODE>(
-        code,
+    let played = play_by_list::<O>(
         c,
         g,
         place,

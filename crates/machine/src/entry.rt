@@ -1,20 +1,21 @@
-// A new handle's entries.
+//! The entries of a new handle.
 ghost use Rattle.std.specs.Prelude.{◌≡◌, ◌+◌};
 ghost use Rattle.machine.specs.Lent.{tables_of, SameTables};
-ghost use Rattle.machine.specs.Accept.{HaveEntries, stored_of, append};
+ghost use Rattle.machine.specs.Private.Accept.{HaveEntries, table_entries_of, with_new_entry};
 
 use super::kind::Kind;
 use super::lent::Tables;
 use protocols::shares::Shares;
 
 impl Tables<'_> {
-    // In every table at the same place, where a value is due.
+    // Writes a value's shares and kind into the same entry of every table and of the kind list, where a value is due.
     #[inline(always)]
-    #[tactic(auto, unfolding(crate::specs::Accept::append))]
+    #[tactic(auto, unfolding(crate::specs::Private::Accept::with_new_entry))]
     pub(crate) fn store(&mut self, values: usize, at: usize, s: Shares, kind: Kind)
         requires { HaveEntries (at + values) (tables_of self.old) self.old.kinds.now }
         ensures same { SameTables self.old self.new }
-        ensures stored { stored_of self.new ≡ append values at s kind (tables_of self.old) self.old.kinds.now }
+        ensures stored { table_entries_of self.new
+            ≡ with_new_entry values at s kind (tables_of self.old) self.old.kinds.now }
     {
         if values == 0 {
             return;

@@ -1,44 +1,49 @@
-// When a command is turned down, up to number 11; a protocol itself tells 12 and 13. Nothing here writes, and nothing sees a share, an
-// input, a tape word or a received word.
-ghost use Rattle.std.specs.Prelude.{◌≡◌, ◌&&◌, ◌≤◌, length, nat_le, nat_lt, nat_eq, cond, Some, None, Err};
+//! The tests of a command for the numbers 4 and 6 to 11. A protocol itself tests for 12 and 13. Nothing here writes,
+//! and nothing sees a share, an input, a tape word or a received word.
+ghost use Rattle.std.specs.Prelude.{◌≡◌, ◌≤◌, length, nat_le, nat_lt, nat_eq, true};
 ghost use Rattle.protocols.specs.Word.{modulus, sub};
-ghost use Rattle.protocols.specs.Place.{count, every};
-ghost use Rattle.protocols.specs.Counts.{due};
-ghost use Rattle.machine.specs.Table.{kind_number, row};
+ghost use Rattle.protocols.specs.Place.{count, every_party};
+ghost use Rattle.protocols.specs.Counts.{count_for};
+ghost use Rattle.machine.specs.Table.{kind_number};
 ghost use Rattle.machine.specs.Lent.{entry};
-ghost use Rattle.machine.specs.Verdict.{same_length, within, is_kind, are_kinds, every_list, sound, holding, check, passed};
+ghost use Rattle.machine.specs.Verdict.{same_length, is_within, is_kind, are_kinds, every_receiver, is_sound};
+ghost use Rattle.machine.specs.Private.Accept.{IfHandle};
 ghost use Rattle.machine.specs.Verdict as spec;
 
-use super::code::{Code, Command};
+use super::code::Command;
 use super::kind::Kind;
 use super::lent::Sizes;
 use super::refusal::Refusal;
+use super::row::{Row, Use};
 use protocols::place::{Drawn, Place, Received};
 use protocols::ring;
 
 // ---- number 4
 
+// Share tables and kind list are equally long.
 fn same_length(z: Sizes) -> bool
     ensures { result ≡ same_length z }
 {
     (z.one == z.kinds) & (z.two == z.kinds) & (z.three == z.kinds)
 }
 
-// This and the next stay two functions: a trait of our own with two impls would be longer, and each is called once.
+// No tape is drawn from beyond its end.
 fn at_most_drawn(a: Drawn, b: Drawn) -> bool
-    ensures { result ≡ every (λ i. nat_le (count i a) (count i b)) }
+    ensures { result ≡ every_party (λ i. nat_le (count i a) (count i b)) }
 {
     (a.provider <= b.provider) & (a.one <= b.one) & (a.two <= b.two) & (a.three <= b.three)
 }
 
+// No list has received words beyond its end.
 fn at_most_received(a: Received, b: Received) -> bool
-    ensures { result ≡ every_list (λ i. nat_le (due i a) (due i b)) }
+    ensures { result ≡ every_receiver (λ i. nat_le (count_for i a) (count_for i b)) }
 {
     (a.one <= b.one) & (a.two <= b.two) & (a.three <= b.three) & (a.controller <= b.controller)
 }
 
+// No count of the place record is beyond its list.
 fn within_lists(p: Place, z: Sizes) -> bool
-    ensures { result ≡ within p z }
+    ensures { result ≡ is_within p z }
 {
     (p.handles <= z.one)
         & (p.inputs <= z.inputs)
@@ -46,15 +51,17 @@ fn within_lists(p: Place, z: Sizes) -> bool
         & at_most_received(p.received, z.received)
 }
 
-// A kind less 1: it has no bit but the lowest just where the kind is 1 or 2. Two comparisons in its place cost half as much again a kind.
+// A kind less 1, which has no bit but the lowest just where the kind is 1 or 2. Two comparisons in its place take half
+// as much time again.
 #[tactic(auto, using(crate::proofs::Laws::KindTest::kind_less_one))]
 fn less_one(kind: u32) -> u32
-    ensures { (result ≡ sub (modulus 5) kind 1) × (nat_lt result 2 ≡ is_kind kind) }
+    ensures difference { result ≡ sub (modulus 5) kind 1 }
+    ensures small { nat_lt result 2 ≡ is_kind kind }
 {
     ring::sub(kind, 1)
 }
 
-// Whether they are each 1 or 2. No early way out, so that the compiler can look at several at once.
+// Whether all are 1 or 2. The loop has no early exit, so that the compiler can look at several at once.
 fn are_kinds(kinds: &[u32]) -> bool
     ensures { result ≡ are_kinds kinds.now }
 {
@@ -65,139 +72,83 @@ fn are_kinds(kinds: &[u32]) -> bool
     seen < 2
 }
 
+// Whether number 4 does not apply.
 pub(crate) fn is_sound(p: Place, z: Sizes, kinds: &[u32]) -> bool
-    ensures { result ≡ sound p z kinds.now }
+    ensures { result ≡ is_sound p z kinds.now }
 {
     let filled = &kinds[..p.handles.min(kinds.len())];
-    same_length(z) & within_lists(p, z) & are_kinds(filled)
+    same_length(z) && within_lists(p, z) && are_kinds(filled)
 }
 
-// ---- numbers 6 to 9: the fields a and b, by the kinds of the filled handles
+// ---- numbers 6 to 11: what a command's row asks of each field, of the tables and of the inputs
 
-// The kind of a filled handle, which counts from 1: less 1, handle 0 is past any end.
+// Number 6: an unused field is 0.
 #[inline(always)]
-fn kind_of(filled: &[u32], h: u32) -> Option<u32>
-    ensures { result ≡ cond (spec.filled (holding filled.now) h) (Some (entry filled.now h)) None }
+fn is_zero_if_unused(field: Use, word: u32) -> bool
+    ensures { result ≡ spec.meets field (nat_eq word 0) true true }
 {
-    filled.get((h as usize).wrapping_sub(1)).copied()
-}
-
-// One handle.
-fn operand(h: u32, kind: Kind, filled: &[u32]) -> Result<(), Refusal>
-    ensures { result ≡ check Refusal.HandleNotFilled (spec.filled (holding filled.now) h)
-        (check Refusal.WrongKind (nat_eq (entry filled.now h) (kind_number kind)) passed) }
-{
-    let found = kind_of(filled, h).ok_or(Refusal::HandleNotFilled)?;
-    if found != u32::from(kind) {
-        return Err(Refusal::WrongKind);
+    match field {
+        Use::Unused => word == 0,
+        _ => true,
     }
-    Ok(())
 }
 
-// Two handles of ring values.
-fn pair(c: Command, filled: &[u32]) -> Result<(), Refusal>
-    ensures { result ≡ check Refusal.HandleNotFilled
-        (spec.filled (holding filled.now) c.a && spec.filled (holding filled.now) c.b)
-        (check Refusal.WrongKind (nat_eq (entry filled.now c.a) 1 && nat_eq (entry filled.now c.b) 1) passed) }
-{
-    let kind_a = kind_of(filled, c.a).ok_or(Refusal::HandleNotFilled)?;
-    let kind_b = kind_of(filled, c.b).ok_or(Refusal::HandleNotFilled)?;
-    let ring = u32::from(Kind::RingValue);
-    if !((kind_a == ring) & (kind_b == ring)) {
-        return Err(Refusal::WrongKind);
-    }
-    Ok(())
-}
-
-// One handle of a ring value, b being unused.
-fn single(c: Command, filled: &[u32]) -> Result<(), Refusal>
-    ensures { result ≡ check Refusal.FieldNotZero (nat_eq c.b 0)
-        (check Refusal.HandleNotFilled (spec.filled (holding filled.now) c.a)
-        (check Refusal.WrongKind (nat_eq (entry filled.now c.a) 1) passed)) }
-{
-    if c.b != 0 {
-        return Err(Refusal::FieldNotZero);
-    }
-    operand(c.a, Kind::RingValue, filled)
-}
-
-// One handle of a bit word, and a position in it.
-fn position(c: Command, filled: &[u32]) -> Result<(), Refusal>
-    ensures { result ≡ check Refusal.HandleNotFilled (spec.filled (holding filled.now) c.a)
-        (check Refusal.WrongKind (nat_eq (entry filled.now c.a) 2)
-        (check Refusal.PositionOutside (nat_lt c.b 32) passed)) }
-{
-    operand(c.a, Kind::BitWord, filled)?;
-    if 32 <= c.b {
-        return Err(Refusal::PositionOutside);
-    }
-    Ok(())
-}
-
-// No field is used.
-fn unused(c: Command) -> Result<(), Refusal>
-    ensures { result ≡ check Refusal.FieldNotZero (nat_eq c.a 0 && nat_eq c.b 0) passed }
-{
-    if (c.a != 0) | (c.b != 0) {
-        return Err(Refusal::FieldNotZero);
-    }
-    Ok(())
-}
-
-// By command: its fields. (A match and no table of closures, here and in `room`: each arm is proved to be its row's tests.)
+// Number 7: a handle counts from 1 and is filled. Handle 0 less 1 wraps to more than any count.
 #[inline(always)]
-fn fields(code: Code, c: Command, filled: &[u32]) -> Result<(), Refusal>
-    ensures { result ≡ spec.fields 5 (row 5 code) c (holding filled.now) filled.now }
+fn is_filled_if_handle(field: Use, p: Place, h: u32) -> bool
+    ensures { result ≡ spec.meets field true (spec.is_filled p h) true }
 {
-    match code {
-        Code::Store => unused(c),
-        Code::Add | Code::Subtract | Code::Multiply | Code::Equal | Code::Below => pair(c, filled),
-        Code::AddConstant | Code::TimesConstant => operand(c.a, Kind::RingValue, filled),
-        Code::Reshare | Code::Bits | Code::Open => single(c, filled),
-        Code::Bit => position(c, filled),
+    match field {
+        Use::Handle => (h as usize).wrapping_sub(1) < p.handles,
+        _ => true,
     }
 }
 
-// ---- numbers 10 and 11: what is left
-
-// An entry for the new value.
-fn value_due(p: Place, entries: usize) -> Result<(), Refusal>
-    ensures { result ≡ check Refusal.TablesFull (nat_lt p.handles entries) passed }
-{
-    if entries <= p.handles {
-        return Err(Refusal::TablesFull);
-    }
-    Ok(())
-}
-
-// An input.
-fn input_due(p: Place, inputs: usize) -> Result<(), Refusal>
-    ensures { result ≡ check Refusal.InputsUsed (nat_lt p.inputs inputs) passed }
-{
-    if inputs <= p.inputs {
-        return Err(Refusal::InputsUsed);
-    }
-    Ok(())
-}
-
-// By command: the entry and the input that it takes.
-fn room(code: Code, p: Place, entries: usize, inputs: usize) -> Result<(), Refusal>
-    ensures { result ≡ spec.room (row 5 code) p entries inputs }
-{
-    match code {
-        Code::Open => Ok(()),
-        Code::Store => {
-            value_due(p, entries)?;
-            input_due(p, inputs)
-        }
-        _ => value_due(p, entries),
-    }
-}
-
-// The lowest number from 6 to 11 that applies, if one does. (Entries and inputs are counts, and no lists: nothing here can see a share.)
+// Number 8: a filled handle is of the operands' kind.
 #[inline(always)]
-pub(crate) fn fields_and_room(
-    code: Code,
+fn is_of_kind_if_handle(field: Use, kinds: &[u32], h: u32, kind: Kind) -> bool
+    requires counted { IfHandle field (1 ≤ h) }
+    requires within { IfHandle field (h ≤ length kinds.now) }
+    ensures { result ≡ spec.meets field true (nat_eq (entry kinds.now h) (kind_number kind)) true }
+{
+    match field {
+        Use::Handle => kinds[h as usize - 1] == u32::from(kind),
+        _ => true,
+    }
+}
+
+// Number 9: a position is one of a word.
+#[inline(always)]
+fn is_in_word_if_position(field: Use, word: u32) -> bool
+    ensures { result ≡ spec.meets field true true (nat_lt word 32) }
+{
+    match field {
+        Use::Position => word < 32,
+        _ => true,
+    }
+}
+
+// Number 10: the tables have an entry left for a new value.
+#[inline(always)]
+fn tables_have(x: Row, p: Place, entries: usize) -> bool
+    ensures { result ≡ spec.tables_have x p entries }
+{
+    x.values <= entries.saturating_sub(p.handles)
+}
+
+// Number 11: an input is left for a command that takes one.
+#[inline(always)]
+fn inputs_have(x: Row, p: Place, inputs: usize) -> bool
+    ensures { result ≡ spec.inputs_have x p inputs }
+{
+    x.inputs <= inputs.saturating_sub(p.inputs)
+}
+
+// The refusal with the lowest number from 6 to 11 that applies, if one does. Entries and inputs are counts and no
+// lists, so that no share or input is seen.
+#[inline(always)]
+pub(crate) fn row_refusal(
+    x: Row,
     c: Command,
     p: Place,
     entries: usize,
@@ -205,8 +156,27 @@ pub(crate) fn fields_and_room(
     kinds: &[u32],
 ) -> Result<(), Refusal>
     requires { p.handles ≤ length kinds.now }
-    ensures { result ≡ spec.refusal 5 (row 5 code) c p entries inputs kinds.now }
+    ensures { result ≡ spec.row_checks 5 x c p entries inputs kinds.now }
 {
-    fields(code, c, &kinds[..p.handles])?;
-    room(code, p, entries, inputs)
+    if !(is_zero_if_unused(x.a, c.a) & is_zero_if_unused(x.b, c.b)) {
+        return Err(Refusal::FieldNotZero);
+    }
+    if !(is_filled_if_handle(x.a, p, c.a) && is_filled_if_handle(x.b, p, c.b)) {
+        return Err(Refusal::HandleNotFilled);
+    }
+    if !(is_of_kind_if_handle(x.a, kinds, c.a, x.operands)
+        & is_of_kind_if_handle(x.b, kinds, c.b, x.operands))
+    {
+        return Err(Refusal::WrongKind);
+    }
+    if !(is_in_word_if_position(x.a, c.a) & is_in_word_if_position(x.b, c.b)) {
+        return Err(Refusal::PositionOutside);
+    }
+    if !tables_have(x, p, entries) {
+        return Err(Refusal::TablesFull);
+    }
+    if !inputs_have(x, p, inputs) {
+        return Err(Refusal::InputsUsed);
+    }
+    Ok(())
 }

@@ -1,27 +1,33 @@
-// What is lent to a command.
+//! What is lent to a command.
 ghost use Rattle.std.specs.Prelude.{◌≡◌};
 ghost use Rattle.protocols.specs.Place.{lists};
 ghost use Rattle.protocols.specs.Lent.{tapes_of};
-ghost use Rattle.machine.specs.Lent.{shares_at, tables, tables_of, lent, sizes};
-ghost use Rattle.machine.specs.Accept.{HasEntry};
+ghost use Rattle.machine.specs.Lent.{shares_at, tables, tables_of, lent_lists, sizes};
+ghost use Rattle.machine.specs.Private.Accept.{HasEntry};
 
 use protocols::lent::Tapes;
 use protocols::place::{Drawn, Received};
 use protocols::shares::Shares;
 
-// Three share tables, and the kinds of their entries, as C lends them. (Tables, inputs, tapes and received lists are no one struct: of a
-// struct within a lent struct the check does not tell what its lists hold after a call, and sessions are lent tables and lists alone.)
+/// Three share tables and the kind list. Each has a word for every handle; entry 0 is that of handle 1. Where the four
+/// differ in length, every command is refused with number 4.
+// Tables, inputs, tapes and received lists are not one struct: a contract cannot say what the lists of a struct within
+// a lent struct hold after a call, and sessions are lent tables and lists alone.
 #[repr(C)]
 #[derive(Drop)]
 pub struct Tables<'a> {
+    /// Miner 1's shares, a word for each handle.
     pub one: &'a mut [u32],
+    /// Miner 2's shares, a word for each handle.
     pub two: &'a mut [u32],
+    /// Miner 3's shares, a word for each handle.
     pub three: &'a mut [u32],
+    /// The kinds by number, a word for each handle: 1 of a ring value, 2 of a bit word.
     pub kinds: &'a mut [u32],
 }
 
 impl Tables<'_> {
-    // The three shares of a handle, which counts from 1.
+    // The three shares of a handle.
     #[inline(always)]
     pub(crate) fn shares(&self, h: u32) -> Shares
         requires { HasEntry (tables_of self.now) h }
@@ -35,7 +41,7 @@ impl Tables<'_> {
         }
     }
 
-    // The kinds alone, for what may see no share.
+    /// The kind list, for code that may see no share.
     pub fn kinds(&self) -> &[u32]
         ensures { result.now ≡ self.now.kinds.now }
     {
@@ -43,20 +49,29 @@ impl Tables<'_> {
     }
 }
 
-// The lengths of all lent lists: three share tables, kinds, inputs, tapes, received lists.
-#[derive(Clone, Copy)]
+/// The lengths of all lent lists, in words.
+#[derive(Clone, Copy, Debug, PartialEq, Eq)]
 pub struct Sizes {
+    /// Miner 1's share table.
     pub one: usize,
+    /// Miner 2's share table.
     pub two: usize,
+    /// Miner 3's share table.
     pub three: usize,
+    /// The kind list.
     pub kinds: usize,
+    /// The inputs.
     pub inputs: usize,
+    /// The four tapes.
     pub tapes: Drawn,
+    /// The four lists of received words.
     pub received: Received,
 }
 
 impl Sizes {
-    // Of lists that are only read: one by one, since `Tables` and `Lists` hold lists that can be written, and a caller may have none.
+    /// The lengths, in words, of these share tables, kind list, inputs, tapes and received lists of miners 1 to 3 and
+    /// the controller.
+    // The lists come one by one, to be read: a caller may have none that it can write, as `Tables` and `Lists` have.
     pub fn of(
         one: &[u32],
         two: &[u32],
@@ -69,7 +84,9 @@ impl Sizes {
         received3: &[u32],
         controller: &[u32],
     ) -> Sizes
-        ensures { result ≡ sizes (lent (tables one.now two.now three.now) kinds.now inputs.now (tapes_of tapes.now) (lists received1.now received2.now received3.now controller.now)) }
+        ensures { let shares = tables one.now two.now three.now in
+            let received = lists received1.now received2.now received3.now controller.now in
+            result ≡ sizes (lent_lists shares kinds.now inputs.now (tapes_of tapes.now) received) }
     {
         Sizes {
             one: one.len(),

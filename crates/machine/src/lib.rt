@@ -1,17 +1,17 @@
-// The command machine: twelve commands on lent share tables, tapes and received lists.
+//! The command machine: twelve commands on lent share tables, tapes and received lists.
 #![tactic(auto)]
 
 mod accept;
 pub mod answer;
-mod caller;
+pub mod arguments;
 pub mod code;
 pub mod command;
+pub mod commands;
 mod entry;
-pub mod given;
-pub mod judge;
+mod judge;
 pub mod kind;
 pub mod lent;
-pub mod play;
+pub mod operation;
 pub mod promises;
 pub mod refusal;
 pub mod row;

@@ -1,39 +1,50 @@
-// The table of commands.
+//! A line of the table of commands.
 ghost use Rattle.std.specs.Prelude.{◌≡◌};
 ghost use Rattle.protocols.specs.Place.{counts};
-ghost use Rattle.protocols.specs.Counts.{received};
+ghost use Rattle.protocols.specs.Counts.{received_counts};
 ghost use Rattle.machine.specs.Table as spec;
 
-use super::code::Code;
 use super::kind::Kind;
 use protocols::place::{Drawn, Received};
 
-// What a field of a command holds.
-#[derive(Clone, Copy)]
+/// What a field of a command holds.
+#[derive(Clone, Copy, Debug, PartialEq, Eq)]
 pub enum Use {
+    /// Nothing: the field is 0, or number 6 refuses it.
     Unused,
+    /// A handle, which counts from 1: number 7 refuses 0 and one that is not filled, number 8 a value of the wrong
+    /// kind.
     Handle,
+    /// A word, which may be any.
     Word,
+    /// A position in a word, 0 to 31: number 9 refuses any other.
     Position,
 }
 
-// A command's line of the table: the use of fields a and b, the operands' kind, the new value's kind, new values, inputs, and the words
-// that are received and drawn. (New values and inputs are counts, 0 or 1, by which the place moves on: no flags.)
-#[derive(Clone, Copy)]
+/// A command's line of the table. The place record moves on by its counts.
+#[derive(Clone, Copy, Debug, PartialEq, Eq)]
 pub struct Row {
+    /// What field a holds.
     pub a: Use,
+    /// What field b holds.
     pub b: Use,
+    /// The kind of the values that the handles name.
     pub operands: Kind,
+    /// The kind of the new value.
     pub kind: Kind,
+    /// How many new values there are: 0 or 1.
     pub values: usize,
+    /// How many inputs are used: 0 or 1.
     pub inputs: usize,
+    /// How many words each party receives.
     pub received: Received,
+    /// How many words are drawn from each tape.
     pub drawn: Drawn,
 }
 
-// (This and the next are no trait of ours: they name the fields of two records.)
-fn received(one: usize, two: usize, three: usize, controller: usize) -> Received
-    ensures { result ≡ received one two three controller }
+// Counts of received words, of miners 1 to 3 and the controller.
+pub(crate) fn received_counts(one: usize, two: usize, three: usize, controller: usize) -> Received
+    ensures { result ≡ received_counts one two three controller }
 {
     Received {
         one,
@@ -43,7 +54,8 @@ fn received(one: usize, two: usize, three: usize, controller: usize) -> Received
     }
 }
 
-fn drawn(provider: usize, one: usize, two: usize, three: usize) -> Drawn
+// Counts of drawn words, of the provider and miners 1 to 3.
+pub(crate) fn counts(provider: usize, one: usize, two: usize, three: usize) -> Drawn
     ensures { result ≡ counts provider one two three }
 {
     Drawn {
@@ -54,9 +66,9 @@ fn drawn(provider: usize, one: usize, two: usize, three: usize) -> Drawn
     }
 }
 
-// One new ring value, from ring values and no input.
-fn line(a: Use, b: Use, received: Received, drawn: Drawn) -> Row
-    ensures { result ≡ spec.line a b Kind.RingValue Kind.RingValue 1 0 received drawn }
+// The row of a command that makes one ring value, from ring values and no input.
+pub(crate) fn ring_row(a: Use, b: Use, received: Received, drawn: Drawn) -> Row
+    ensures { result ≡ spec.row_of a b Kind.RingValue Kind.RingValue 1 0 received drawn }
 {
     Row {
         a,
@@ -70,51 +82,9 @@ fn line(a: Use, b: Use, received: Received, drawn: Drawn) -> Row
     }
 }
 
-// Nothing is received and nothing drawn.
-fn alone(a: Use, b: Use) -> Row
-    ensures { result ≡ spec.line a b Kind.RingValue Kind.RingValue 1 0 (received 0 0 0 0) (counts 0 0 0 0) }
+// The row of such a command that draws and sends no word.
+pub(crate) fn local_row(a: Use, b: Use) -> Row
+    ensures { result ≡ spec.row_of a b Kind.RingValue Kind.RingValue 1 0 (received_counts 0 0 0 0) (counts 0 0 0 0) }
 {
-    line(a, b, received(0, 0, 0, 0), drawn(0, 0, 0, 0))
-}
-
-// The line of each command, at 32 bits.
-#[inline(always)]
-pub fn of(code: Code) -> Row
-    ensures { result ≡ spec.row 5 code }
-{
-    use Use::{Handle, Position, Unused, Word};
-    match code {
-        Code::Store => Row {
-            inputs: 1,
-            ..line(Unused, Unused, received(1, 1, 1, 0), drawn(2, 0, 0, 0))
-        },
-        Code::Add | Code::Subtract => alone(Handle, Handle),
-        Code::AddConstant | Code::TimesConstant => alone(Handle, Word),
-        Code::Multiply => line(Handle, Handle, received(4, 4, 4, 0), drawn(0, 2, 2, 2)),
-        Code::Reshare => line(Handle, Unused, received(1, 1, 1, 0), drawn(0, 1, 1, 1)),
-        Code::Bits => Row {
-            kind: Kind::BitWord,
-            ..line(
-                Handle,
-                Unused,
-                received(22, 25, 25, 0),
-                drawn(0, 15, 12, 12),
-            )
-        },
-        Code::Bit => Row {
-            operands: Kind::BitWord,
-            ..line(Handle, Position, received(0, 3, 3, 0), drawn(0, 3, 0, 0))
-        },
-        Code::Equal => line(Handle, Handle, received(11, 15, 15, 0), drawn(0, 10, 6, 6)),
-        Code::Open => Row {
-            values: 0,
-            ..line(Handle, Unused, received(1, 1, 1, 3), drawn(0, 1, 1, 1))
-        },
-        Code::Below => line(
-            Handle,
-            Handle,
-            received(22, 28, 28, 0),
-            drawn(0, 18, 12, 12),
-        ),
-    }
+    ring_row(a, b, received_counts(0, 0, 0, 0), counts(0, 0, 0, 0))
 }

@@ -1,22 +1,23 @@
-// Commands on lent lists, up to the first that is refused.
+//! Commands on lent lists, up to the first that is refused.
 ghost use Rattle.std.specs.Prelude.{◌≡◌, true, cond, nat_lt};
-ghost use Rattle.protocols.specs.Lent.{Same};
-ghost use Rattle.machine.specs.Lent.{lent_of, SameTables, sizes};
-ghost use Rattle.machine.specs.Verdict.{sound};
+ghost use Rattle.protocols.specs.Lent.{SameLists};
+ghost use Rattle.machine.specs.Lent.{lent_lists_of, SameTables, sizes};
+ghost use Rattle.machine.specs.Verdict.{is_sound};
 ghost use Rattle.machine.specs.Command.{answer};
-ghost use Rattle.machine.specs.Run.{commands_of, run_to_refusal, ended, end_of};
+ghost use Rattle.machine.specs.Run.{commands_of, run_to_refusal, run_outcome, run_outcome_of};
 
-use super::answer::{Accepted, Answer, Run};
+use super::answer::{Accepted, Answer, Form, Run};
 use super::code::Command;
 use super::lent::Tables;
 use super::refusal::Refusal;
-use super::{caller, step};
+use super::step;
 use protocols::lent::{Lists, Tapes};
 use protocols::place::Place;
 
-// Number 4 refuses the first command, if there is one.
+// What a run answers where number 4 applies: it refuses the first command, if there is one.
 fn refuse_first(words: usize, start: Place) -> Run
-    ensures { (result.done ≡ 0) × (result.last ≡ answer (cond (nat_lt words 3) 0 4) start 0) }
+    ensures done { result.done ≡ 0 }
+    ensures last { result.last ≡ answer (cond (nat_lt words 3) 0 4) start 0 }
 {
     let answered = if words < 3 {
         Ok(Accepted {
@@ -32,7 +33,7 @@ fn refuse_first(words: usize, start: Place) -> Run
     }
 }
 
-// A command leaves the lists as soundly lent as they were: number 4 cannot apply again.
+// A run where number 4 does not apply. No command makes it apply, so it is not tested again.
 fn run_soundly(
     commands: &[u32],
     start: Place,
@@ -41,10 +42,13 @@ fn run_soundly(
     tapes: &Tapes,
     lists: &mut Lists,
 ) -> Run
-    requires { sound start (sizes (lent_of tables.old inputs.now tapes.now lists.old)) tables.old.kinds.now ≡ true }
+    requires { let l = lent_lists_of tables.old inputs.now tapes.now lists.old in
+        is_sound start (sizes l) tables.old.kinds.now ≡ true }
     ensures same_tables { SameTables tables.old tables.new }
-    ensures same_lists { Same lists.old lists.new }
-    ensures done { ended result (lent_of tables.new inputs.now tapes.now lists.new) ≡ end_of start (run_to_refusal 5 (commands_of commands.now) start (lent_of tables.old inputs.now tapes.now lists.old)) }
+    ensures same_lists { SameLists lists.old lists.new }
+    ensures done { let l = lent_lists_of tables.old inputs.now tapes.now lists.old in
+        run_outcome result (lent_lists_of tables.new inputs.now tapes.now lists.new)
+        ≡ run_outcome_of start (run_to_refusal 5 (commands_of commands.now) start l) }
 {
     let mut last = Accepted {
         place: start,
@@ -53,23 +57,15 @@ fn run_soundly(
     let (each, _) = commands.as_chunks::<3>();
     for (done, words) in each.iter().enumerate() {
         let [code, a, b] = *words;
-        let answered = step::step::<{ caller::RUN }>(
-            Command { code, a, b },
-            last.place,
-            tables,
-            inputs,
-            tapes,
-            lists,
+        let command = Command { code, a, b };
+        let answered: Result<Accepted, Refusal> = step::step(
+            command, last.place, tables, inputs, tapes, lists,
         );
-        last = match answered {
-            Ok(accepted) => accepted,
-            Err(refusal) => {
-                return Run {
-                    done,
-                    last: Answer::of(last.place, Err(refusal)),
-                };
-            }
+        let Ok(accepted) = answered else {
+            let last = Answer::of(last.place, answered);
+            return Run { done, last };
         };
+        last = accepted;
     }
     Run {
         done: each.len(),
@@ -77,7 +73,13 @@ fn run_soundly(
     }
 }
 
-// The commands in order, three words each.
+/// Runs commands in order, up to the first that is refused. `commands` has three words for each: code, a and b; one or
+/// two words left over at the end are ignored. Each command goes on from the place where the one before it ended, the
+/// first from `start`, and each is lent and writes what `command` says.
+///
+/// Answers how many commands were done, and the answer of the last one that was tried. A refused command writes
+/// nothing; what the commands before it wrote remains. Where the lengths, the kinds and `start` do not fit each other,
+/// the first command is refused with number 4.
 pub fn run(
     commands: &[u32],
     start: Place,
@@ -87,8 +89,10 @@ pub fn run(
     lists: &mut Lists,
 ) -> Run
     ensures same_tables { SameTables tables.old tables.new }
-    ensures same_lists { Same lists.old lists.new }
-    ensures done { ended result (lent_of tables.new inputs.now tapes.now lists.new) ≡ end_of start (run_to_refusal 5 (commands_of commands.now) start (lent_of tables.old inputs.now tapes.now lists.old)) }
+    ensures same_lists { SameLists lists.old lists.new }
+    ensures done { let l = lent_lists_of tables.old inputs.now tapes.now lists.old in
+        run_outcome result (lent_lists_of tables.new inputs.now tapes.now lists.new)
+        ≡ run_outcome_of start (run_to_refusal 5 (commands_of commands.now) start l) }
 {
     let unsound = !step::is_lent_soundly(start, tables, inputs, tapes, lists);
     if unsound {

@@ -1,15 +1,20 @@
-// One command, where number 4 does not apply.
+//! One command, where number 4 does not apply.
 ghost use Rattle.std.specs.Prelude.{◌≡◌, true, Ok};
-ghost use Rattle.protocols.specs.Lent.{Same};
-ghost use Rattle.machine.specs.Lent.{lent_of, SameTables, sizes};
-ghost use Rattle.machine.specs.Table.{find};
-ghost use Rattle.machine.specs.Verdict.{sound};
-ghost use Rattle.machine.specs.Command.{answer_of, outcome};
+ghost use Rattle.protocols.specs.Lent.{SameLists};
+ghost use Rattle.machine.specs.Lent.{lent_lists_of, SameTables, sizes};
+ghost use Rattle.machine.specs.Table.{code_named};
+ghost use Rattle.machine.specs.Verdict.{is_sound};
+ghost use Rattle.machine.specs.Command.{answer_of, command_outcome};
 ghost use Rattle.machine.specs.Command as spec;
 
-use super::answer::Accepted;
-use super::code::{Code, Command};
+use super::answer::{Accepted, Form};
+use super::code::Command;
+use super::commands::{
+    Add, AddConstant, Below, Bit, Bits, Equal, Multiply, Open, Reshare, Store, Subtract,
+    TimesConstant,
+};
 use super::lent::{Sizes, Tables};
+use super::operation::Operation;
 use super::refusal::Refusal;
 use super::{accept, judge};
 use protocols::lent::{Lists, Tapes};
@@ -24,7 +29,8 @@ pub(crate) fn is_lent_soundly(
     tapes: &Tapes,
     lists: &Lists,
 ) -> bool
-    ensures { result ≡ sound place (sizes (lent_of tables.now inputs.now tapes.now lists.now)) tables.now.kinds.now }
+    ensures { result
+        ≡ is_sound place (sizes (lent_lists_of tables.now inputs.now tapes.now lists.now)) tables.now.kinds.now }
 {
     let sizes = Sizes::of(
         tables.one,
@@ -41,9 +47,9 @@ pub(crate) fn is_lent_soundly(
     judge::is_sound(place, sizes, tables.kinds())
 }
 
-// What follows once the command is known: judge, then compute and write; a refused command writes nothing. (CALLER, CODE: see `caller.rt`.)
-fn step_of<const CALLER: usize, const CODE: usize>(
-    code: Code,
+// The step of a known command: the tests 6 to 11, and then its protocol. A refused command writes nothing.
+#[inline(always)]
+fn attempt<O: Operation>(
     c: Command,
     place: Place,
     tables: &mut Tables,
@@ -51,49 +57,76 @@ fn step_of<const CALLER: usize, const CODE: usize>(
     tapes: &Tapes,
     lists: &mut Lists,
 ) -> Result<Accepted, Refusal>
-    requires { (sound place (sizes (lent_of tables.old inputs.now tapes.now lists.old)) tables.old.kinds.now ≡ true) × (find c.code ≡ Ok code) }
+    requires sound { let l = lent_lists_of tables.old inputs.now tapes.now lists.old in
+        is_sound place (sizes l) tables.old.kinds.now ≡ true }
+    requires known { code_named c.code ≡ Ok O.code }
     ensures same_tables { SameTables tables.old tables.new }
-    ensures same_lists { Same lists.old lists.new }
-    ensures done { outcome (answer_of place result) (lent_of tables.new inputs.now tapes.now lists.new) ≡ spec.command 5 c place (lent_of tables.old inputs.now tapes.now lists.old) }
+    ensures same_lists { SameLists lists.old lists.new }
+    ensures done { command_outcome (answer_of place result) (lent_lists_of tables.new inputs.now tapes.now lists.new)
+        ≡ spec.command 5 c place (lent_lists_of tables.old inputs.now tapes.now lists.old) }
 {
-    judge::fields_and_room(
-        code,
+    judge::row_refusal(
+        O::row(),
         c,
         place,
         tables.one.len(),
         inputs.len(),
         tables.kinds(),
     )?;
-    accept::accept::<CALLER, CODE>(code, c, place, tables, inputs, tapes, lists)
+    accept::accept::<O>(c, place, tables, inputs, tapes, lists)
 }
 
-// Looks the command up. (Each has an arm, so that it has a copy of `step_of` of its own.)
-pub(crate) fn step<const CALLER: usize>(
+// The same step, answered in the caller's form.
+fn operation_step<O: Operation, F: Form>(
     c: Command,
     place: Place,
     tables: &mut Tables,
     inputs: &[u32],
     tapes: &Tapes,
     lists: &mut Lists,
-) -> Result<Accepted, Refusal>
-    requires { sound place (sizes (lent_of tables.old inputs.now tapes.now lists.old)) tables.old.kinds.now ≡ true }
+) -> F
+    requires sound { let l = lent_lists_of tables.old inputs.now tapes.now lists.old in
+        is_sound place (sizes l) tables.old.kinds.now ≡ true }
+    requires known { code_named c.code ≡ Ok O.code }
     ensures same_tables { SameTables tables.old tables.new }
-    ensures same_lists { Same lists.old lists.new }
-    ensures done { outcome (answer_of place result) (lent_of tables.new inputs.now tapes.now lists.new) ≡ spec.command 5 c place (lent_of tables.old inputs.now tapes.now lists.old) }
+    ensures same_lists { SameLists lists.old lists.new }
+    ensures done { command_outcome (F.read place result) (lent_lists_of tables.new inputs.now tapes.now lists.new)
+        ≡ spec.command 5 c place (lent_lists_of tables.old inputs.now tapes.now lists.old) }
 {
-    let code = Code::try_from(c.code)?;
-    match code {
-        Code::Store => step_of::<CALLER, 1>(code, c, place, tables, inputs, tapes, lists),
-        Code::Add => step_of::<CALLER, 2>(code, c, place, tables, inputs, tapes, lists),
-        Code::Subtract => step_of::<CALLER, 3>(code, c, place, tables, inputs, tapes, lists),
-        Code::AddConstant => step_of::<CALLER, 4>(code, c, place, tables, inputs, tapes, lists),
-        Code::TimesConstant => step_of::<CALLER, 5>(code, c, place, tables, inputs, tapes, lists),
-        Code::Multiply => step_of::<CALLER, 6>(code, c, place, tables, inputs, tapes, lists),
-        Code::Reshare => step_of::<CALLER, 7>(code, c, place, tables, inputs, tapes, lists),
-        Code::Bits => step_of::<CALLER, 8>(code, c, place, tables, inputs, tapes, lists),
-        Code::Bit => step_of::<CALLER, 9>(code, c, place, tables, inputs, tapes, lists),
-        Code::Equal => step_of::<CALLER, 10>(code, c, place, tables, inputs, tapes, lists),
-        Code::Open => step_of::<CALLER, 11>(code, c, place, tables, inputs, tapes, lists),
-        Code::Below => step_of::<CALLER, 12>(code, c, place, tables, inputs, tapes, lists),
+    let answered = attempt::<O>(c, place, tables, inputs, tapes, lists);
+    F::of(place, answered)
+}
+
+// Looks the command up. Each code word has an arm, so that each command has a copy of the step of its own. The arms'
+// order changes no answer: in this one the loop of a run takes the fewest instructions.
+pub(crate) fn step<F: Form>(
+    c: Command,
+    place: Place,
+    tables: &mut Tables,
+    inputs: &[u32],
+    tapes: &Tapes,
+    lists: &mut Lists,
+) -> F
+    requires { let l = lent_lists_of tables.old inputs.now tapes.now lists.old in
+        is_sound place (sizes l) tables.old.kinds.now ≡ true }
+    ensures same_tables { SameTables tables.old tables.new }
+    ensures same_lists { SameLists lists.old lists.new }
+    ensures done { command_outcome (F.read place result) (lent_lists_of tables.new inputs.now tapes.now lists.new)
+        ≡ spec.command 5 c place (lent_lists_of tables.old inputs.now tapes.now lists.old) }
+{
+    match c.code {
+        12 => operation_step::<Below, F>(c, place, tables, inputs, tapes, lists),
+        11 => operation_step::<Open, F>(c, place, tables, inputs, tapes, lists),
+        10 => operation_step::<Equal, F>(c, place, tables, inputs, tapes, lists),
+        9 => operation_step::<Bit, F>(c, place, tables, inputs, tapes, lists),
+        8 => operation_step::<Bits, F>(c, place, tables, inputs, tapes, lists),
+        7 => operation_step::<Reshare, F>(c, place, tables, inputs, tapes, lists),
+        6 => operation_step::<Multiply, F>(c, place, tables, inputs, tapes, lists),
+        5 => operation_step::<TimesConstant, F>(c, place, tables, inputs, tapes, lists),
+        4 => operation_step::<AddConstant, F>(c, place, tables, inputs, tapes, lists),
+        3 => operation_step::<Subtract, F>(c, place, tables, inputs, tapes, lists),
+        2 => operation_step::<Add, F>(c, place, tables, inputs, tapes, lists),
+        1 => operation_step::<Store, F>(c, place, tables, inputs, tapes, lists),
+        _ => F::of(place, Err(Refusal::UnknownCode)),
     }
 }

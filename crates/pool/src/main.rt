@@ -1,10 +1,9 @@
-// Reads a session from standard input, runs it and prints its outcome.
+//! Reads a session from standard input, runs it and prints its outcome.
 #![tactic(auto)]
 
 use machine::lent::Tables;
 use protocols::lent::Lists;
-use session::pool::{BYTES, TEXT};
-use session::session::WORDS;
+use session::{BYTES, TEXT, WORDS};
 use std::io;
 use std::process::ExitCode;
 
@@ -32,12 +31,12 @@ fn print_session(rt: &impl Print, file: &[u8]) -> io::Result<()> {
         three: &mut received3,
         controller: &mut controller,
     };
-    let length = session::pool::pool(file, &mut words, &mut tables, &mut lists, &mut out);
+    let length = session::pool(file, &mut words, &mut tables, &mut lists, &mut out);
     rt.write_all(&out[..length])
 }
 
 // Says on standard error what failed, with the system's message; where that fails too, the exit status still says it.
-fn failed(rt: &impl Eprint, what: &str, error: io::Error) -> ExitCode {
+fn failure(rt: &impl Eprint, what: &str, error: io::Error) -> ExitCode {
     let _ = rt.eprintln(format_args!("pool: {what}: {error}"));
     ExitCode::FAILURE
 }
@@ -46,10 +45,10 @@ fn main(rt: HostRuntime) -> ExitCode {
     let mut file = [0u8; BYTES + 1];
     let n = match reading::read_whole(&mut rt.stdin(), &mut file) {
         Ok(n) => n,
-        Err(error) => return failed(&rt, "standard input", error),
+        Err(error) => return failure(&rt, "standard input", error),
     };
     match print_session(&rt, &file[..n]) {
         Ok(()) => ExitCode::SUCCESS,
-        Err(error) => failed(&rt, "standard output", error),
+        Err(error) => failure(&rt, "standard output", error),
     }
 }

@@ -4,7 +4,7 @@ use Rattle.protocols.specs.declared.place.Party.{Party}
 use Rattle.protocols.specs.declared.place.Party.TheVariants.{Provider, One, Two, Three}
 use Rattle.protocols.specs.declared.place.Received.{Received}
 use Rattle.protocols.specs.Place.{Lists, silence, ◌followed_by◌}
-use Rattle.protocols.specs.Parties.{Mail, Process, for_party, in_turn, Sent}
+use Rattle.protocols.specs.Parties.{Messages, Process, for_party, in_turn, SentCounts}
 
 -- ---- a party's received list, round by round
 
@@ -16,14 +16,14 @@ number_for Two k = k.two
 number_for Three k = k.three
 
 -- how many words party i is sent in a round, by each party
-abbrev pub sent_to : Party → Sent → Party → ℕ
+abbrev pub sent_to : Party → SentCounts → Party → ℕ
 sent_to i t Provider = number_for i t.provider
 sent_to i t One = number_for i t.one
 sent_to i t Two = number_for i t.two
 sent_to i t Three = number_for i t.three
 
 -- of a list that begins with a round's words, k of each sender, in the senders' order: the mail, and what is behind it
-abbrev pub in_front : (Party → ℕ) → List ℕ → Mail
+abbrev pub in_front : (Party → ℕ) → List ℕ → Messages
 in_front k l Provider = take (k Provider) l
 in_front k l One = take (k One) (drop (k Provider) l)
 in_front k l Two = take (k Two) (drop (k Provider + k One) l)
@@ -40,38 +40,38 @@ pub record Alone (B : Type 0) : Type 0 where
   pub sends : List Lists
 
 -- party i by itself, with the timetable's rounds cut from the list l of its received words
-unfoldable pub alone : (B : Type 0) (r : ℕ) → Party → List Sent → Process r B → List ℕ → Alone B
+unfoldable pub alone : (B : Type 0) (r : ℕ) → Party → List SentCounts → Process r B → List ℕ → Alone B
 alone B zero i times p l = record { ends = p; sends = [] }
 alone B (suc r) i [] p l =
-    let a = alone B r i [] (p.goes_on (λ j. [])) l in
+    let a = alone B r i [] (p.next (λ j. [])) l in
     record { ends = a.ends; sends = p.sends ∷ a.sends }
 alone B (suc r) i (t ∷ times) p l =
     let k = sent_to i t in
-    let a = alone B r i times (p.goes_on (in_front k l)) (behind k l) in
+    let a = alone B r i times (p.next (in_front k l)) (behind k l) in
     record { ends = a.ends; sends = p.sends ∷ a.sends }
 
 -- what party i sends, round by round, where it is connected with the others
 unfoldable pub sends_of : (B : Type 0) (r : ℕ) → (Party → Process r B) → Party → List Lists
 sends_of B zero p i = []
-sends_of B (suc r) p i = (p i).sends ∷ sends_of B r (λ j. (p j).goes_on (λ k. for_party j (p k).sends)) i
+sends_of B (suc r) p i = (p i).sends ∷ sends_of B r (λ j. (p j).next (λ k. for_party j (p k).sends)) i
 
 -- ---- received lists that agree with what is sent
 
 -- what a party sends in the first of its rounds: nothing where there is none
-abbrev pub first : List Lists → Lists
-first [] = silence
-first (o ∷ l) = o
+abbrev pub first_round : List Lists → Lists
+first_round [] = silence
+first_round (o ∷ l) = o
 
 -- and in the rounds after it
-abbrev pub later : List Lists → List Lists
-later [] = []
-later (o ∷ l) = l
+abbrev pub later_rounds : List Lists → List Lists
+later_rounds [] = []
+later_rounds (o ∷ l) = l
 
 -- what the four send in r rounds, as lists of received words
-unfoldable pub collected : ℕ → (Party → List Lists) → Lists
-collected zero s = silence
-collected (suc r) s = in_turn (λ i. first (s i)) followed_by collected r (λ i. later (s i))
+unfoldable pub words_sent : ℕ → (Party → List Lists) → Lists
+words_sent zero s = silence
+words_sent (suc r) s = in_turn (λ i. first_round (s i)) followed_by words_sent r (λ i. later_rounds (s i))
 
 -- the words w are what the four send, each by itself, where w are the words that they receive
-abbrev pub Agree : (B : Type 0) (r : ℕ) → List Sent → (Party → Process r B) → Lists → Type 0
-Agree B r times p w = w ≡ collected r (λ i. (alone B r i times (p i) (for_party i w)).sends)
+abbrev pub Agree : (B : Type 0) (r : ℕ) → List SentCounts → (Party → Process r B) → Lists → Type 0
+Agree B r times p w = w ≡ words_sent r (λ i. (alone B r i times (p i) (for_party i w)).sends)

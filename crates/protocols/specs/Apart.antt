@@ -8,7 +8,7 @@ use Rattle.protocols.specs.Shares.{Miner, at, each, shares, Operands, operands}
 use Rattle.protocols.specs.Place.{Tapes, tapes, tape, owner, Lists, miner, list}
 use Rattle.protocols.specs.Protocol.{Protocol, locally}
 use Rattle.protocols.specs.Store.{store}
-use Rattle.protocols.specs.Local.{sum, difference, multiple, shifted}
+use Rattle.protocols.specs.Local.{sum, difference, constant_multiple, constant_sum}
 use Rattle.protocols.specs.Reshare.{reshare}
 use Rattle.protocols.specs.Multiply.{multiply}
 use Rattle.protocols.specs.Bit.{bit}
@@ -26,8 +26,8 @@ pub record ProtocolsApart (n : ℕ) : Type 0 where
   pub store_apart : PlayedApart (store (modulus n)) input share
   pub sum_apart : PlayedApart (locally (sum (modulus n))) pair share
   pub difference_apart : PlayedApart (locally (difference (modulus n))) pair share
-  pub shifted_apart : (c : ℕ) → PlayedApart (locally (shifted (modulus n) c)) share share
-  pub multiple_apart : (c : ℕ) → PlayedApart (locally (multiple (modulus n) c)) share share
+  pub constant_sum_apart : (c : ℕ) → PlayedApart (locally (constant_sum (modulus n) c)) share share
+  pub constant_multiple_apart : (c : ℕ) → PlayedApart (locally (constant_multiple (modulus n) c)) share share
   pub multiply_apart : PlayedApart (multiply (modulus n)) pair share
   pub reshare_apart : PlayedApart (reshare (modulus n)) share share
   pub bits_apart : PlayedApart (bits n) share share
@@ -47,10 +47,10 @@ pub record ByItself (B : Type 0) (r : ℕ) (p : Party → Process r B) : Type 0 
   pub agree : let c = connect r p in Agree B r c.sent p c.received
   pub only : let c = connect r p in (w : Lists) → Agree B r c.sent p w → w ≡ c.received
 
--- promised by `same_view`: of a protocol that is played apart, a miner that has the Same before in two runs, draws the
--- same words and receives the same words has the same share after both
-abbrev pub SameView : {S : Type 0} → Protocol S Shares → (Miner → S → S → Type 0) → Type 0
-SameView {S} f Same = (i : Miner) (s s' : S) (b b' : Tapes)
+-- promised by `same_protocol_view`: of a protocol that is played apart, a miner that has the Same before in two runs,
+-- draws the same words and receives the same words has the same share after both
+abbrev pub SameProtocolView : {S : Type 0} → Protocol S Shares → (Miner → S → S → Type 0) → Type 0
+SameProtocolView {S} f Same = (i : Miner) (s s' : S) (b b' : Tapes)
     → Same i s s' → tape (owner i) b ≡ tape (owner i) b'
     → list (miner i) (f.received s b) ≡ list (miner i) (f.received s' b') → at i (f.result s b) ≡ at i (f.result s' b')
 
@@ -76,10 +76,10 @@ mixed_tapes first b b' =
     let its = λ (i : Party). cond (first i) (tape i b) (tape i b') in
     tapes (its Provider) (its One) (its Two) (its Three)
 
--- promised by `mixed_runs`: of a protocol that is played apart, where two runs deliver the same words, so does each run
--- in which every party has its part of the one or of the other, and each miner ends as in that one: so nobody's words,
--- the provider's and those for the controller among them, are made of what only another party has
-pub record MixedRuns {S : Type 0} (f : Protocol S Shares) (mixed : (Party → Bool) → S → S → S) : Type 0 where
+-- promised by `mixed_protocol_runs`: of a protocol that is played apart, where two runs deliver the same words, so does
+-- each run in which every party has its part of the one or of the other, and each miner ends as in that one: so
+-- nobody's words, the provider's and those for the controller among them, are made of what only another party has
+pub record MixedProtocolRuns {S : Type 0} (f : Protocol S Shares) (mixed : (Party → Bool) → S → S → S) : Type 0 where
   pub received : (first : Party → Bool) (s s' : S) (b b' : Tapes) → f.received s b ≡ f.received s' b'
       → f.received (mixed first s s') (mixed_tapes first b b') ≡ f.received s b
   pub result : (first : Party → Bool) (s s' : S) (b b' : Tapes) → f.received s b ≡ f.received s' b'

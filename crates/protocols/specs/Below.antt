@@ -1,4 +1,4 @@
--- Below: the highest bit of a difference. (01, The steps)
+-- Below: the highest bit of a difference.
 use Rattle.std.specs.Prelude.{ℕ, ◌-◌}
 use Rattle.protocols.specs.declared.shares.Shares.{Shares}
 use Rattle.protocols.specs.Word.{width, modulus}
@@ -8,6 +8,6 @@ use Rattle.protocols.specs.Local.{difference}
 use Rattle.protocols.specs.Bit.{bit}
 use Rattle.protocols.specs.Bits.{bits}
 
--- 'subtract, bits, then Bit on position 31, with no handle for the stages between'
+-- the difference as a bit word, and its highest bit as a ring value; the values between have no handles
 unfoldable pub below : ℕ → Protocol Operands Shares
 below n = locally (difference (modulus n)) then bits n then bit (modulus n) (width n - 1)

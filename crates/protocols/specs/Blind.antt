@@ -1,4 +1,5 @@
--- Blindness of one protocol for one who looks on. (mission, entry 3; it composes over a list of commands)
+-- Blindness of one protocol for one who looks on.
+-- What such an observer receives and holds tells it nothing of the operands but what it may know.
 use Rattle.std.specs.Prelude.{◌≡◌, ℕ}
 use Rattle.protocols.specs.declared.place.Party.{Party}
 use Rattle.protocols.specs.declared.place.Party.TheVariants.{Provider, One, Two, Three}
@@ -41,16 +42,20 @@ SameOperands o x x' = SameShares o x.u x'.u × SameShares o x.v x'.v
 abbrev pub SameOpened : ℕ → Observer → Shares → Shares → Type 0
 SameOpened m o s s' = SameShares o s s' × (Sees o controller → sum_of m s ≡ sum_of m s')
 
--- For operands s that are Good, `mask s` takes the words that f draws one to one onto as many words below m, `unmask s` back, the
--- observer's own words kept. Two runs with the same masked words, on operands that look the Same, deliver the same words to the
--- observer and leave what looks the Same after.
-pub record Blind (m : ℕ) (o : Observer) {S T : Type 0} (f : Protocol S T) (Good : S → Type 0) (Same : S → S → Type 0) (After : T → T → Type 0) : Type 0 where
+-- For operands s that are Good, `mask s` takes the words that f draws one to one onto as many words below m, `unmask s`
+-- back, the observer's own words kept. Two runs with the same masked words, on operands that look the Same, deliver the
+-- same words to the observer and leave what looks the same After.
+pub record Blind (m : ℕ) (o : Observer) {S T : Type 0} (f : Protocol S T)
+    (Good : S → Type 0) (Same : S → S → Type 0) (After : T → T → Type 0) : Type 0 where
   pub mask : S → Tapes → Tapes
   pub unmask : S → Tapes → Tapes
   pub mask_words : (s : S) → Good s → (b : Tapes) → Contents m f.draws b → Contents m f.draws (mask s b)
   pub unmask_words : (s : S) → Good s → (b : Tapes) → Contents m f.draws b → Contents m f.draws (unmask s b)
   pub unmask_mask : (s : S) → Good s → (b : Tapes) → Contents m f.draws b → unmask s (mask s b) ≡ b
   pub mask_unmask : (s : S) → Good s → (b : Tapes) → Contents m f.draws b → mask s (unmask s b) ≡ b
-  pub mask_own : (s : S) → Good s → (b : Tapes) → Contents m f.draws b → (p : Party) → Holds o p → tape p (mask s b) ≡ tape p b
-  pub same : (s s' : S) → Good s → Good s' → Same s s' → (b b' : Tapes) → Contents m f.draws b → Contents m f.draws b' → mask s b ≡ mask s' b'
-      → After (f.result s b) (f.result s' b') × ((r : Receiver) → Sees o r → list r (f.received s b) ≡ list r (f.received s' b'))
+  pub mask_own : (s : S) → Good s → (b : Tapes) → Contents m f.draws b
+      → (p : Party) → Holds o p → tape p (mask s b) ≡ tape p b
+  pub same : (s s' : S) → Good s → Good s' → Same s s'
+      → (b b' : Tapes) → Contents m f.draws b → Contents m f.draws b' → mask s b ≡ mask s' b'
+      → After (f.result s b) (f.result s' b')
+      × ((r : Receiver) → Sees o r → list r (f.received s b) ≡ list r (f.received s' b'))

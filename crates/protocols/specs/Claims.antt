@@ -1,19 +1,21 @@
--- What this crate claims of the protocols, as statements; each is promised by a function of src/promises.rt, whose
--- contract it is. Everywhere m is a modulus and n stands for words of 2 ^ n bits; nothing is assumed of shares and
--- drawn words but that each is a word.
-use Rattle.std.specs.Prelude.{◌≡◌, ℕ, suc, ◌+◌, ◌-◌, ◌*◌, ◌/◌, ◌^◌, ◌<◌, ◌≤◌, cond, [], ◌∷◌, ◌++◌, length, take, drop, slice_index, bit_xor, ◌==◌, List, Some, None}
+-- What this crate claims of the protocols.
+-- Each claim is promised by the function of src/promises.rt that its comment names. Everywhere m is a modulus and n
+-- stands for words of 2 ^ n bits; nothing is assumed of shares and drawn words but that each is a word.
+use Rattle.std.specs.Prelude.{◌≡◌, ℕ, suc, ◌+◌, ◌-◌, ◌*◌, ◌/◌, ◌^◌, ◌<◌, ◌≤◌, ◌==◌, cond, bit_xor}
+use Rattle.std.specs.Prelude.{List, [], ◌∷◌, ◌++◌, length, take, drop, slice_index, Some, None}
 use Rattle.protocols.specs.declared.place.Party.{Party}
 use Rattle.protocols.specs.declared.place.Drawn.{Drawn}
 use Rattle.protocols.specs.declared.place.Received.{Received}
 use Rattle.protocols.specs.declared.place.Place.{Place}
 use Rattle.protocols.specs.declared.shares.Shares.{Shares}
-use Rattle.protocols.specs.Word.{width, modulus, add, sub, mul, bit_at, low}
-use Rattle.protocols.specs.Shares.{AreWords, Operands, shares, sum_of, xor_of}
-use Rattle.protocols.specs.Place.{Tapes, tape, Lists, lists, Receiver, list, count, counts, in_order, advance, block, with_count, draw, draw_answer}
+use Rattle.protocols.specs.Word.{width, modulus, add, sub, mul, bit_at, low_bit}
+use Rattle.protocols.specs.Shares.{SharesAreWords, Operands, shares, sum_of, xor_of}
+use Rattle.protocols.specs.Place.{Tapes, tape, Lists, lists, Receiver, list, in_order}
+use Rattle.protocols.specs.Place.{count, counts, with_count, advance, block, draw, draw_answer}
 use Rattle.protocols.specs.Protocol.{Protocol, locally, done, spent, perform}
-use Rattle.protocols.specs.Outcome.{delivery, fronts}
+use Rattle.protocols.specs.Outcome.{delivery, with_fronts}
 use Rattle.protocols.specs.Store.{store}
-use Rattle.protocols.specs.Local.{sum, difference, multiple, shifted}
+use Rattle.protocols.specs.Local.{sum, difference, constant_multiple, constant_sum}
 use Rattle.protocols.specs.Reshare.{reshare}
 use Rattle.protocols.specs.Multiply.{multiply}
 use Rattle.protocols.specs.Bit.{bit}
@@ -22,12 +24,12 @@ use Rattle.protocols.specs.Equal.{fold_share, equal}
 use Rattle.protocols.specs.Open.{opening}
 use Rattle.protocols.specs.Below.{below}
 use Rattle.protocols.specs.Contents.{Contents}
-use Rattle.protocols.specs.Counts.{Counted, received}
+use Rattle.protocols.specs.Counts.{HasCounts, received_counts}
 use Rattle.protocols.specs.Blind.{Observer, SameShares, SameOperands, SameOpened, Blind}
-use Rattle.protocols.specs.WordForm.{word_s, word_p, word_fold}
+use Rattle.protocols.specs.Private.WordForm.{word_s, word_p, word_fold}
 
 abbrev pub OperandsAreWords : ℕ → Operands → Type 0
-OperandsAreWords m x = AreWords m x.u × AreWords m x.v
+OperandsAreWords m x = SharesAreWords m x.u × SharesAreWords m x.v
 
 -- ---- 1. New shares combine to the right word, whatever is drawn.
 
@@ -37,52 +39,69 @@ pub record RingCombines (m : ℕ) : Type 0 where
   pub store_combines : (v : ℕ) → v < m → (b : Tapes) → sum_of m ((store m).result v b) ≡ v
   pub sum_combines : (x : Operands) → sum_of m (sum m x) ≡ add m (sum_of m x.u) (sum_of m x.v)
   pub difference_combines : (x : Operands) → sum_of m (difference m x) ≡ sub m (sum_of m x.u) (sum_of m x.v)
-  pub shifted_combines : (c : ℕ) (u : Shares) → sum_of m (shifted m c u) ≡ add m (sum_of m u) c
-  pub multiple_combines : (c : ℕ) (u : Shares) → sum_of m (multiple m c u) ≡ mul m (sum_of m u) c
+  pub constant_sum_combines : (c : ℕ) (u : Shares) → sum_of m (constant_sum m c u) ≡ add m (sum_of m u) c
+  pub constant_multiple_combines : (c : ℕ) (u : Shares) → sum_of m (constant_multiple m c u) ≡ mul m (sum_of m u) c
   pub reshare_combines : (u : Shares) (b : Tapes) → sum_of m ((reshare m).result u b) ≡ sum_of m u
-  pub multiply_combines : (x : Operands) (b : Tapes) → sum_of m ((multiply m).result x b) ≡ mul m (sum_of m x.u) (sum_of m x.v)
+  pub multiply_combines : (x : Operands) (b : Tapes)
+      → sum_of m ((multiply m).result x b) ≡ mul m (sum_of m x.u) (sum_of m x.v)
   pub opening_combines : (u : Shares) (b : Tapes) → sum_of m ((opening m).result u b) ≡ sum_of m u
   -- those three shares are what the controller receives
-  pub opening_shown : (u : Shares) (b : Tapes) → ((opening m).received u b).controller ≡ in_order ((opening m).result u b)
+  pub opening_shown : (u : Shares) (b : Tapes)
+      → ((opening m).received u b).controller ≡ in_order ((opening m).result u b)
 
 -- promised by `bits_combine`: on words of 2 ^ n bits the new shares of Bit, Bits, Equal and Below give the bit, the
 -- word, 1 exactly where the operands are equal, and the highest bit of their difference
 pub record BitsCombine (n : ℕ) : Type 0 where
-  pub bit_combines : (j : ℕ) (u : Shares) (b : Tapes) → sum_of (modulus n) ((bit (modulus n) j).result u b) ≡ bit_at (xor_of u) j
+  pub bit_combines : (j : ℕ) (u : Shares) (b : Tapes)
+      → sum_of (modulus n) ((bit (modulus n) j).result u b) ≡ bit_at (xor_of u) j
   pub bits_combines : (u : Shares) (b : Tapes) → Contents (modulus n) (bits n).draws b
       → xor_of ((bits n).result u b) ≡ sum_of (modulus n) u
   pub equal_combines : (x : Operands) (b : Tapes)
       → sum_of (modulus n) ((equal n).result x b) ≡ cond (sum_of (modulus n) x.u == sum_of (modulus n) x.v) 1 0
   pub below_combines : (x : Operands) (b : Tapes) → Contents (modulus n) (below n).draws b
-      → sum_of (modulus n) ((below n).result x b) ≡ bit_at (sub (modulus n) (sum_of (modulus n) x.u) (sum_of (modulus n) x.v)) (width n - 1)
+      → sum_of (modulus n) ((below n).result x b)
+      ≡ bit_at (sub (modulus n) (sum_of (modulus n) x.u) (sum_of (modulus n) x.v)) (width n - 1)
 
--- ---- 2. Each protocol draws and delivers exactly the counts of document 01's table, and every word that it makes is a word.
+-- ---- 2. Each protocol draws and delivers exactly its row's counts, and every word that it makes is a word.
 
 -- a row: the words received by miners 1, 2, 3 and controller, and the words drawn by provider and miners 1, 2, 3
-abbrev pub Row : ℕ → {S : Type 0} → Protocol S Shares → (S → Type 0) → Received → Drawn → Type 0
-Row n f Good k d = Counted (modulus n) f Good (AreWords (modulus n)) d k
+abbrev pub HasRow : ℕ → {S : Type 0} → Protocol S Shares → (S → Type 0) → Received → Drawn → Type 0
+HasRow n f Good k d = HasCounts (modulus n) f Good (SharesAreWords (modulus n)) d k
 
--- promised by `table`: each protocol on words of 2 ^ n bits draws and delivers exactly its row's counts, and all that
+-- promised by `rows`: each protocol on words of 2 ^ n bits draws and delivers exactly its row's counts, and all that
 -- it makes of words are words
-pub record Table (n : ℕ) : Type 0 where
-  pub store_row : Row n (store (modulus n)) (λ v. v < modulus n) (received 1 1 1 0) (counts 2 0 0 0)
-  pub sum_row : Row n (locally (sum (modulus n))) (OperandsAreWords (modulus n)) (received 0 0 0 0) (counts 0 0 0 0)
-  pub difference_row : Row n (locally (difference (modulus n))) (OperandsAreWords (modulus n)) (received 0 0 0 0) (counts 0 0 0 0)
-  pub shifted_row : (c : ℕ) → Row n (locally (shifted (modulus n) c)) (AreWords (modulus n)) (received 0 0 0 0) (counts 0 0 0 0)
-  pub multiple_row : (c : ℕ) → Row n (locally (multiple (modulus n) c)) (AreWords (modulus n)) (received 0 0 0 0) (counts 0 0 0 0)
-  pub multiply_row : Row n (multiply (modulus n)) (OperandsAreWords (modulus n)) (received 4 4 4 0) (counts 0 2 2 2)
-  pub reshare_row : Row n (reshare (modulus n)) (AreWords (modulus n)) (received 1 1 1 0) (counts 0 1 1 1)
-  pub bits_row : Row n (bits n) (AreWords (modulus n)) (received (2 + 4 * n) (5 + 4 * n) (5 + 4 * n) 0) (counts 0 (5 + 2 * n) (2 + 2 * n) (2 + 2 * n))
-  pub bit_row : (j : ℕ) → Row n (bit (modulus n) j) (AreWords (modulus n)) (received 0 3 3 0) (counts 0 3 0 0)
-  pub equal_row : Row n (equal n) (OperandsAreWords (modulus n)) (received (1 + 2 * n) (5 + 2 * n) (5 + 2 * n) 0) (counts 0 (5 + n) (1 + n) (1 + n))
-  pub opening_row : Row n (opening (modulus n)) (AreWords (modulus n)) (received 1 1 1 3) (counts 0 1 1 1)
-  pub below_row : Row n (below n) (OperandsAreWords (modulus n)) (received (2 + 4 * n) (8 + 4 * n) (8 + 4 * n) 0) (counts 0 (8 + 2 * n) (2 + 2 * n) (2 + 2 * n))
+pub record Rows (n : ℕ) : Type 0 where
+  pub store_row : HasRow n (store (modulus n)) (λ v. v < modulus n) (received_counts 1 1 1 0) (counts 2 0 0 0)
+  pub sum_row :
+      HasRow n (locally (sum (modulus n))) (OperandsAreWords (modulus n)) (received_counts 0 0 0 0) (counts 0 0 0 0)
+  pub difference_row : HasRow n (locally (difference (modulus n))) (OperandsAreWords (modulus n))
+      (received_counts 0 0 0 0) (counts 0 0 0 0)
+  pub constant_sum_row : (c : ℕ)
+      → HasRow n (locally (constant_sum (modulus n) c)) (SharesAreWords (modulus n))
+      (received_counts 0 0 0 0) (counts 0 0 0 0)
+  pub constant_multiple_row : (c : ℕ)
+      → HasRow n (locally (constant_multiple (modulus n) c)) (SharesAreWords (modulus n))
+      (received_counts 0 0 0 0) (counts 0 0 0 0)
+  pub multiply_row :
+      HasRow n (multiply (modulus n)) (OperandsAreWords (modulus n)) (received_counts 4 4 4 0) (counts 0 2 2 2)
+  pub reshare_row :
+      HasRow n (reshare (modulus n)) (SharesAreWords (modulus n)) (received_counts 1 1 1 0) (counts 0 1 1 1)
+  pub bits_row : HasRow n (bits n) (SharesAreWords (modulus n)) (received_counts (2 + 4 * n) (5 + 4 * n) (5 + 4 * n) 0)
+      (counts 0 (5 + 2 * n) (2 + 2 * n) (2 + 2 * n))
+  pub bit_row : (j : ℕ)
+      → HasRow n (bit (modulus n) j) (SharesAreWords (modulus n)) (received_counts 0 3 3 0) (counts 0 3 0 0)
+  pub equal_row : HasRow n (equal n) (OperandsAreWords (modulus n))
+      (received_counts (1 + 2 * n) (5 + 2 * n) (5 + 2 * n) 0) (counts 0 (5 + n) (1 + n) (1 + n))
+  pub opening_row :
+      HasRow n (opening (modulus n)) (SharesAreWords (modulus n)) (received_counts 1 1 1 3) (counts 0 1 1 1)
+  pub below_row : HasRow n (below n) (OperandsAreWords (modulus n))
+      (received_counts (2 + 4 * n) (8 + 4 * n) (8 + 4 * n) 0) (counts 0 (8 + 2 * n) (2 + 2 * n) (2 + 2 * n))
 
--- promised by `table_at_32`: the rows that depend on the width, as numbers at 32 bits
-pub record TableAt32 : Type 0 where
-  pub bits_row : Row 5 (bits 5) (AreWords (modulus 5)) (received 22 25 25 0) (counts 0 15 12 12)
-  pub equal_row : Row 5 (equal 5) (OperandsAreWords (modulus 5)) (received 11 15 15 0) (counts 0 10 6 6)
-  pub below_row : Row 5 (below 5) (OperandsAreWords (modulus 5)) (received 22 28 28 0) (counts 0 18 12 12)
+-- promised by `rows_at_32`: the rows that depend on the width, as numbers at 32 bits
+pub record RowsAt32 : Type 0 where
+  pub bits_row : HasRow 5 (bits 5) (SharesAreWords (modulus 5)) (received_counts 22 25 25 0) (counts 0 15 12 12)
+  pub equal_row : HasRow 5 (equal 5) (OperandsAreWords (modulus 5)) (received_counts 11 15 15 0) (counts 0 10 6 6)
+  pub below_row : HasRow 5 (below 5) (OperandsAreWords (modulus 5)) (received_counts 22 28 28 0) (counts 0 18 12 12)
 
 -- ---- 3. Each protocol is blind for a miner, for the controller, and for a miner that is controller too.
 
@@ -90,16 +109,26 @@ pub record TableAt32 : Type 0 where
 -- may know; an opening alone tells the controller the opened word
 pub record BlindProtocols (n : ℕ) (o : Observer) : Type 0 where
   pub store_blind : Blind (modulus n) o (store (modulus n)) (λ v. v < modulus n) (λ v v'. Unit {0}) (SameShares o)
-  pub sum_blind : Blind (modulus n) o (locally (sum (modulus n))) (OperandsAreWords (modulus n)) (SameOperands o) (SameShares o)
-  pub difference_blind : Blind (modulus n) o (locally (difference (modulus n))) (OperandsAreWords (modulus n)) (SameOperands o) (SameShares o)
-  pub shifted_blind : (c : ℕ) → Blind (modulus n) o (locally (shifted (modulus n) c)) (AreWords (modulus n)) (SameShares o) (SameShares o)
-  pub multiple_blind : (c : ℕ) → Blind (modulus n) o (locally (multiple (modulus n) c)) (AreWords (modulus n)) (SameShares o) (SameShares o)
-  pub multiply_blind : Blind (modulus n) o (multiply (modulus n)) (OperandsAreWords (modulus n)) (SameOperands o) (SameShares o)
-  pub reshare_blind : Blind (modulus n) o (reshare (modulus n)) (AreWords (modulus n)) (SameShares o) (SameShares o)
-  pub bits_blind : Blind (modulus n) o (bits n) (AreWords (modulus n)) (SameShares o) (SameShares o)
-  pub bit_blind : (j : ℕ) → Blind (modulus n) o (bit (modulus n) j) (AreWords (modulus n)) (SameShares o) (SameShares o)
+  pub sum_blind :
+      Blind (modulus n) o (locally (sum (modulus n))) (OperandsAreWords (modulus n)) (SameOperands o) (SameShares o)
+  pub difference_blind : Blind (modulus n) o (locally (difference (modulus n))) (OperandsAreWords (modulus n))
+      (SameOperands o) (SameShares o)
+  pub constant_sum_blind : (c : ℕ)
+      → Blind (modulus n) o (locally (constant_sum (modulus n) c)) (SharesAreWords (modulus n))
+      (SameShares o) (SameShares o)
+  pub constant_multiple_blind : (c : ℕ)
+      → Blind (modulus n) o (locally (constant_multiple (modulus n) c)) (SharesAreWords (modulus n))
+      (SameShares o) (SameShares o)
+  pub multiply_blind :
+      Blind (modulus n) o (multiply (modulus n)) (OperandsAreWords (modulus n)) (SameOperands o) (SameShares o)
+  pub reshare_blind :
+      Blind (modulus n) o (reshare (modulus n)) (SharesAreWords (modulus n)) (SameShares o) (SameShares o)
+  pub bits_blind : Blind (modulus n) o (bits n) (SharesAreWords (modulus n)) (SameShares o) (SameShares o)
+  pub bit_blind : (j : ℕ)
+      → Blind (modulus n) o (bit (modulus n) j) (SharesAreWords (modulus n)) (SameShares o) (SameShares o)
   pub equal_blind : Blind (modulus n) o (equal n) (OperandsAreWords (modulus n)) (SameOperands o) (SameShares o)
-  pub opening_blind : Blind (modulus n) o (opening (modulus n)) (AreWords (modulus n)) (SameOpened (modulus n) o) (SameShares o)
+  pub opening_blind :
+      Blind (modulus n) o (opening (modulus n)) (SharesAreWords (modulus n)) (SameOpened (modulus n) o) (SameShares o)
   pub below_blind : Blind (modulus n) o (below n) (OperandsAreWords (modulus n)) (SameOperands o) (SameShares o)
 
 -- ---- 4. The code's masks and shifts are the position-wise rounds, for every round k of every width.
@@ -118,7 +147,8 @@ pub record SourceIs (k j : ℕ) : Type 0 where
   pub agrees : source k j / 2 ^ suc k ≡ j / 2 ^ suc k
   pub highest : (i : ℕ) → i < j → bit_at i k ≡ 0 → i / 2 ^ suc k ≡ j / 2 ^ suc k → i ≤ source k j
 
--- ---- 5. On lent tapes a protocol is spent exactly when a tape has too few words left, and tapes that it does not draw from do not count.
+-- ---- 5. On lent tapes a protocol is spent exactly when a tape has too few words left, and tapes that it does not draw
+-- from do not count.
 
 -- promised by `draw_is`: a draw of k words is 0, the next k words and the place moved on by them, or 12, no words and
 -- the place as it was, exactly where the tape has fewer words left; so are the code's answers read
@@ -156,7 +186,8 @@ pub record OnTapes {S T : Type 0} (f : Protocol S T) (s : S) (p : Place) (t : Ta
         drawn = counts (d.provider + n.provider) (d.one + n.one) (d.two + n.two) (d.three + n.three);
         received = p.received;
       }
-  pub other_tapes : (t' : Tapes) → ((i : Party) → 0 < count i f.draws → tape i t ≡ tape i t') → perform f s p t ≡ perform f s p t'
+  pub other_tapes : (t' : Tapes) → ((i : Party) → 0 < count i f.draws → tape i t ≡ tape i t')
+      → perform f s p t ≡ perform f s p t'
 
 -- promised by `delivers`: what a protocol made is turned down with number 13 exactly where a list lacks room, and then
 -- nothing changes; otherwise every list begins with its words, and the rest of it is as it was
@@ -166,8 +197,9 @@ pub record Delivers (p : Place) (l : Lists) (s : Shares) (w : Lists) (q : Place)
       ≡ record { outcome = record { number = 13; shares = shares 0 0 0; place = p }; lists = l }
   pub done_if : ((r : Receiver) → length (list r w) ≤ length (list r l))
       → delivery p (done s w q) l
-      ≡ record { outcome = record { number = 0; shares = s; place = q }; lists = fronts l w }
-  pub begins : ((r : Receiver) → length (list r w) ≤ length (list r l)) → (r : Receiver) → list r (fronts l w) ≡ list r w ++ drop (length (list r w)) (list r l)
+      ≡ record { outcome = record { number = 0; shares = s; place = q }; lists = with_fronts l w }
+  pub begins : ((r : Receiver) → length (list r w) ≤ length (list r l))
+      → (r : Receiver) → list r (with_fronts l w) ≡ list r w ++ drop (length (list r w)) (list r l)
   -- a spent protocol: number 12, the place and every list as they were
   pub spent_if : delivery p spent l
       ≡ record { outcome = record { number = 12; shares = shares 0 0 0; place = p }; lists = l }
@@ -219,9 +251,9 @@ pub record Transcripts (m : ℕ) : Type 0 where
       let u₁ = bit_at u.one j in
       let u₂ = bit_at u.two j in
       let u₃ = bit_at u.three j in
-      let b₁ = low (slice_index b.one 0) in
+      let b₁ = low_bit (slice_index b.one 0) in
       let m₁₂ = slice_index b.one 1 in
-      let b₁₂ = low (slice_index b.one 2) in
+      let b₁₂ = low_bit (slice_index b.one 2) in
       let m₁₃ = sub m (bit_xor b₁ u₁) m₁₂ in
       let b₁₃ = bit_xor b₁ b₁₂ in
       (bit m j).received u b ≡ lists [] (m₁₂ ∷ b₁₂ ∷ bit_xor b₁₃ u₃ ∷ []) (m₁₃ ∷ b₁₃ ∷ bit_xor b₁₂ u₂ ∷ []) []

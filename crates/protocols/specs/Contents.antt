@@ -5,14 +5,14 @@ use Rattle.protocols.specs.declared.place.Drawn.{Drawn}
 use Rattle.protocols.specs.Place.{Tapes, tape, count}
 
 -- every word of the list is below m
-abbrev pub Below : ℕ → List ℕ → Type 0
-Below m [] = Unit {0}
-Below m (x ∷ l) = (x < m) × Below m l
+abbrev pub AllBelow : ℕ → List ℕ → Type 0
+AllBelow m [] = Unit {0}
+AllBelow m (x ∷ l) = (x < m) × AllBelow m l
 
 -- a list of n words below m
 pub record Words (m n : ℕ) (l : List ℕ) : Type 0 where
   pub long : length l ≡ n
-  pub below : Below m l
+  pub below : AllBelow m l
 
 -- contents of the four tapes, of the lengths n
 abbrev pub Contents : ℕ → Drawn → Tapes → Type 0

@@ -1,4 +1,4 @@
--- Draws by every miner at once: the words of a block with the moved place, or spent. (01, 'Handles, tapes and places')
+-- Draws by every miner at once: the words of a block with the moved place, or spent.
 use Rattle.std.specs.Prelude.{cond}
 use Rattle.protocols.specs.declared.place.Drawn.{Drawn}
 use Rattle.protocols.specs.declared.place.Place.{Place}

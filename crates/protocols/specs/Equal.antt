@@ -1,66 +1,82 @@
--- Equal: 1 if two ring values are equal, else 0. (000, algorithm 5; 01, The steps) On words of 2 ^ n bits, in n rounds.
+-- Equal: 1 if two ring values are equal, else 0; on words of 2 ^ n bits, in n rounds.
+-- The difference of the values is 0 exactly where a shared word p is all ones, and the rounds fold p by 'and'.
 use Rattle.std.specs.Prelude.{ℕ, suc, ◌+◌, ◌-◌, ◌%◌, ◌^◌}
 use Rattle.protocols.specs.declared.shares.Shares.{Shares}
-use Rattle.protocols.specs.declared.equal.Folding.{Folding}
+use Rattle.protocols.specs.declared.equal.FoldState.{FoldState}
 use Rattle.protocols.specs.Word.{width, modulus, add, sub, bit_at, of_bits, choose}
 use Rattle.protocols.specs.Shares.{one, prev, at, each, shares, Operands}
-use Rattle.protocols.specs.Place.{Tapes, counts, word, words, to_next, to_two_three, ◌followed_by◌}
-use Rattle.protocols.specs.Protocol.{Protocol, locally, ◌then◌, repeated}
+use Rattle.protocols.specs.Place.{Tapes, Lists, counts, word, words, to_next, to_two_three, ◌followed_by◌}
+use Rattle.protocols.specs.Protocol.{Protocol, locally, ◌then◌, with_rounds}
 use Rattle.protocols.specs.Local.{difference}
-use Rattle.protocols.specs.Masked.{masked, and_share}
+use Rattle.protocols.specs.Masked.{masked_shares, and_share}
 use Rattle.protocols.specs.Bit.{bit}
 
--- ---- lines 1 to 9
+-- ---- the comparison: miner 1 hands its share of the difference to miners 2 and 3
 
--- 'miner 1 draws r2; r3 = (u1 - v1) - r2'
+-- miner 1 draws r₂, and r₃ = (u₁ - v₁) - r₂
 abbrev pub r₃ : ℕ → Operands → Tapes → ℕ
 r₃ m x t = sub m (difference m x).one (word t one 0)
 
--- 'e_i = u_i - v_i + r_i. Shares of p: all ones, e2, -e3', from the shares of u - v
-abbrev pub start : ℕ → Shares → ℕ → ℕ → Shares
-start m d r₂ r₃ = shares (m - 1) (add m d.two r₂) (sub m 0 (add m d.three r₃))
+-- shares of p from those d of the difference: all ones, d₂ + r₂, and the negative of d₃ + r₃
+abbrev pub first_shares : ℕ → Shares → ℕ → ℕ → Shares
+first_shares m d r₂ r₃ = shares (m - 1) (add m d.two r₂) (sub m 0 (add m d.three r₃))
 
-abbrev pub compared : ℕ → Operands → Tapes → Shares
-compared m x t = start m (difference m x) (word t one 0) (r₃ m x t)
+abbrev pub comparison : ℕ → Operands → Tapes → Shares
+comparison m x t = first_shares m (difference m x) (word t one 0) (r₃ m x t)
 
--- 'miners 2 and 3 receive theirs'
+-- miner 2 receives r₂, miner 3 receives r₃
 unfoldable pub compare : ℕ → Protocol Operands Shares
 compare n = record {
   draws = counts 0 1 0 0;
-  result = compared (modulus n);
+  result = comparison (modulus n);
   received = λ x t. to_two_three (word t one 0) (r₃ (modulus n) x t);
 }
 
--- 'Each draws and sends q'
-unfoldable pub begin : Protocol Shares Folding
-begin = record { draws = counts 0 1 1 1; result = λ p t. record { p = p; q = words t 0 }; received = λ p t. to_next (words t 0) }
+-- each miner draws the mask of the first round and sends it to the next
+unfoldable pub first_masks : Protocol Shares FoldState
+first_masks = record {
+  draws = counts 0 1 1 1;
+  result = λ p t. record { p = p; q = words t 0 };
+  received = λ p t. to_next (words t 0);
+}
 
--- ---- lines 11 to 16: round k
+-- ---- round k
 
--- position j after round k, on a miner's own masked share p and the previous miner's p':
--- 'position 2^(k+1) m takes the "and" with position 2^(k+1) m + 2^k'; the others 'keep their masked shares'
+-- position j after round k, on a miner's own masked share p and the previous miner's p': each multiple of 2 ^ (k + 1)
+-- takes the 'and' with the position 2 ^ k above it, and the others keep their masked shares
 abbrev pub fold_at : ℕ → ℕ → ℕ → ℕ → ℕ
-fold_at k p p' j = choose (j % 2 ^ suc k) (and_share (bit_at p j) (bit_at p' j) (bit_at p (j + 2 ^ k)) (bit_at p' (j + 2 ^ k))) (bit_at p j)
+fold_at k p p' j =
+    let i = j + 2 ^ k in
+    choose (j % 2 ^ suc k) (and_share (bit_at p j) (bit_at p' j) (bit_at p i) (bit_at p' i)) (bit_at p j)
 
 -- all w positions
 unfoldable pub fold_share : ℕ → ℕ → ℕ → ℕ → ℕ
 fold_share w k p p' = of_bits w (fold_at k p p')
 
-abbrev pub folded : ℕ → ℕ → Shares → Shares → Folding
-folded w k p q = record { p = each (λ i. fold_share w k (at i p) (at (prev i) p)); q = q }
+-- every miner's, on masked shares p; with the masks q of the next round
+abbrev pub fold_round : ℕ → ℕ → Shares → Shares → FoldState
+fold_round w k p q = record { p = each (λ i. fold_share w k (at i p) (at (prev i) p)); q = q }
 
--- 'Five masked rounds as above, p and q only'
-unfoldable pub fold : ℕ → ℕ → Protocol Folding Folding
+-- what the miners hold after a round in which they draw q
+abbrev pub after_round : ℕ → ℕ → FoldState → Shares → FoldState
+after_round w k h q = fold_round w k (masked_shares h.p h.q) q
+
+-- what each miner sends to the next in a round: its masked p, and then the mask of the next round
+abbrev pub sent_in_round : FoldState → Shares → Lists
+sent_in_round h q = to_next (masked_shares h.p h.q) followed_by to_next q
+
+unfoldable pub fold : ℕ → ℕ → Protocol FoldState FoldState
 fold n k = record {
   draws = counts 0 1 1 1;
-  result = λ h t. folded (width n) k (masked h.p h.q) (words t 0);
-  received = λ h t. to_next (masked h.p h.q) followed_by to_next (words t 0);
+  result = λ h t. after_round (width n) k h (words t 0);
+  received = λ h t. sent_in_round h (words t 0);
 }
 
--- the comparison and the first k rounds
-unfoldable pub folds : ℕ → ℕ → Protocol Operands Folding
-folds n = repeated (compare n then begin) (fold n)
+-- the comparison, the first masks and the first k rounds
+unfoldable pub folds : ℕ → ℕ → Protocol Operands FoldState
+folds n = with_rounds (compare n then first_masks) (fold n)
 
--- line 18: 'Then Bit on position 0'
+-- ---- the result: position 0 as a ring value
+
 unfoldable pub equal : ℕ → Protocol Operands Shares
 equal n = folds n n then locally (λ h. h.p) then bit (modulus n) 0

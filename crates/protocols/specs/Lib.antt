@@ -1,8 +1,7 @@
--- What the protocols are, in the papers' order, and what is claimed of them.
+-- What the protocols are, in the order in which they are read.
 pub mod Word
 pub mod Shares
 pub mod Place
-pub mod Draws
 pub mod Protocol
 pub mod Store
 pub mod Local
@@ -14,16 +13,21 @@ pub mod Bits
 pub mod Equal
 pub mod Open
 pub mod Below
+-- What they draw, send and leave, and what the code's functions answer.
 pub mod Contents
 pub mod Counts
+pub mod Draws
 pub mod Outcome
 pub mod Lent
+pub mod Printed
+-- What is claimed of them, and the notions that the claims speak of.
 pub mod Blind
-pub mod WordForm
 pub mod Parties
 pub mod Own
 pub mod Alone
-pub mod Worked
 pub mod Claims
 pub mod Apart
-pub mod Printed
+pub mod Worked
+-- What only contracts inside the crate speak of. One claim stands on it: that the code's rounds on whole words, in
+-- WordForm, are those of Bits and Equal.
+pub mod Private

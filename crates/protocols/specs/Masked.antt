@@ -1,13 +1,13 @@
--- What the rounds of Bits and Equal share: masks by exclusive or, and a shared 'and'. (000, algorithm 4, lines 14 and 22)
+-- What the rounds of Bits and Equal share: masks by exclusive or, and a shared 'and'.
 use Rattle.std.specs.Prelude.{ℕ, bit_and, bit_xor}
 use Rattle.protocols.specs.declared.shares.Shares.{Shares}
 use Rattle.protocols.specs.Shares.{prev, at, each}
 
--- line 14: p_i xor q_i xor q_(i-1)
-abbrev pub masked : Shares → Shares → Shares
-masked p q = each (λ i. bit_xor (bit_xor (at i p) (at i q)) (at (prev i) q))
+-- each miner's share with its own mask and the previous miner's
+abbrev pub masked_shares : Shares → Shares → Shares
+masked_shares p q = each (λ i. bit_xor (bit_xor (at i p) (at i q)) (at (prev i) q))
 
--- line 22: a miner's share of a shared 'and', from its own shares a, b and the previous miner's a', b'
+-- a miner's share of a shared 'and', from its own shares a, b and the previous miner's a', b'
 abbrev pub and_share : ℕ → ℕ → ℕ → ℕ → ℕ
 and_share a a' b b' = bit_xor (bit_xor (bit_and a b) (bit_and a b')) (bit_and a' b)
 

@@ -1,31 +1,35 @@
--- Multiply. (000, algorithm 1; 01, The steps)
+-- Multiply: masked shares of both operands go to the next miner, and three products of them are a share of the product.
 use Rattle.std.specs.Prelude.{ℕ}
 use Rattle.protocols.specs.declared.shares.Shares.{Shares}
 use Rattle.protocols.specs.Word.{add, mul}
 use Rattle.protocols.specs.Shares.{prev, at, each, Operands}
-use Rattle.protocols.specs.Place.{Tapes, counts, words, to_next, ◌followed_by◌}
+use Rattle.protocols.specs.Place.{Tapes, Lists, counts, words, to_next, ◌followed_by◌}
 use Rattle.protocols.specs.Protocol.{Protocol}
-use Rattle.protocols.specs.Reshare.{fresh}
+use Rattle.protocols.specs.Reshare.{fresh_shares}
 
--- round 3: w_i = u'_i v'_i + u'_i v'_(i-1) + u'_(i-1) v'_i, from own u, v and the previous miner's u', v'
+-- a miner's share of the product, from its own masked shares u, v and the previous miner's u', v'
 abbrev pub product_share : ℕ → ℕ → ℕ → ℕ → ℕ → ℕ
 product_share m u v u' v' = add m (add m (mul m u v) (mul m u v')) (mul m u' v)
 
 abbrev pub product : ℕ → Shares → Shares → Shares
 product m u v = each (λ i. product_share m (at i u) (at i v) (at (prev i) u) (at (prev i) v))
 
--- round 2: u'_i = u_i + r_i - r_(i-1), and v'_i likewise with s
+-- the operands with fresh shares: u with the masks r, which are each miner's first words, and v with the second ones, s
 abbrev pub masked_u : ℕ → Operands → Tapes → Shares
-masked_u m x b = fresh m x.u (words b 0)
+masked_u m x b = fresh_shares m x.u (words b 0)
 
 abbrev pub masked_v : ℕ → Operands → Tapes → Shares
-masked_v m x b = fresh m x.v (words b 1)
+masked_v m x b = fresh_shares m x.v (words b 1)
 
--- 'miner i draws r_i, then s_i, and sends both on', then 'sends both on' of u'_i, v'_i
+-- each miner sends r and s to the next, and then its masked shares
+abbrev pub sent_in_multiply : ℕ → Operands → Tapes → Lists
+sent_in_multiply m x b =
+    to_next (words b 0) followed_by to_next (words b 1)
+    followed_by to_next (masked_u m x b) followed_by to_next (masked_v m x b)
+
 unfoldable pub multiply : ℕ → Protocol Operands Shares
 multiply m = record {
   draws = counts 0 2 2 2;
   result = λ x b. product m (masked_u m x b) (masked_v m x b);
-  received = λ x b.
-      to_next (words b 0) followed_by to_next (words b 1) followed_by to_next (masked_u m x b) followed_by to_next (masked_v m x b);
+  received = sent_in_multiply m;
 }

@@ -1,14 +1,15 @@
--- Open: fresh shares for the controller. (01, The steps; 002 asks that published shares be independent)
+-- Open: fresh shares for the controller, which adds them up. They tell it nothing but the sum, since they are fresh.
 use Rattle.std.specs.Prelude.{ℕ}
 use Rattle.protocols.specs.declared.shares.Shares.{Shares}
 use Rattle.protocols.specs.Place.{counts, words, to_next, to_controller, ◌followed_by◌}
 use Rattle.protocols.specs.Protocol.{Protocol}
-use Rattle.protocols.specs.Reshare.{fresh}
+use Rattle.protocols.specs.Reshare.{fresh_shares}
 
--- 'reshare, but the fresh shares go to the controller, in miner order'; the table's shares are not these
+-- as in reshare each miner sends its mask to the next; the fresh shares go to the controller, in the miners' order, and
+-- the miners keep the old ones
 unfoldable pub opening : ℕ → Protocol Shares Shares
 opening m = record {
   draws = counts 0 1 1 1;
-  result = λ s b. fresh m s (words b 0);
-  received = λ s b. to_next (words b 0) followed_by to_controller (fresh m s (words b 0));
+  result = λ s b. fresh_shares m s (words b 0);
+  received = λ s b. to_next (words b 0) followed_by to_controller (fresh_shares m s (words b 0));
 }

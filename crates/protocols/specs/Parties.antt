@@ -10,14 +10,14 @@ use Rattle.protocols.specs.Counts.{list_lengths}
 -- ---- a party
 
 -- what a party is sent in a round, by each party
-abbrev pub Mail : Type 0
-Mail = Party → List ℕ
+abbrev pub Messages : Type 0
+Messages = Party → List ℕ
 
 -- What a party does in r rounds, and what it has in the end. In a round it sends words, and then goes on with what it
 -- is sent. By this type it knows nothing else of the other parties.
 abbrev pub Process : ℕ → Type 0 → Type 0
 Process zero B = B
-Process (suc r) B = record { sends : Lists; goes_on : Mail → Process r B }
+Process (suc r) B = record { sends : Lists; next : Messages → Process r B }
 
 -- what of these words is for a party; the provider receives nothing
 abbrev pub for_party : Party → Lists → List ℕ
@@ -33,15 +33,15 @@ abbrev pub in_turn : (Party → Lists) → Lists
 in_turn o = o Provider followed_by o One followed_by o Two followed_by o Three
 
 -- how many words each party sends to each list in a round
-pub record Sent : Type 0 where
+pub record SentCounts : Type 0 where
   pub provider : Received
   pub one : Received
   pub two : Received
   pub three : Received
 
 -- the same of a round in which the parties send these words
-abbrev pub sent : (Party → Lists) → Sent
-sent o = record {
+abbrev pub sent_lengths : (Party → Lists) → SentCounts
+sent_lengths o = record {
   provider = list_lengths (o Provider);
   one = list_lengths (o One);
   two = list_lengths (o Two);
@@ -49,22 +49,22 @@ sent o = record {
 }
 
 -- what each party has in the end, the lists of received words, and how many words were sent, round by round
-pub record Connected (B : Type 0) : Type 0 where
+pub record Connection (B : Type 0) : Type 0 where
   pub ends : Party → B
   pub received : Lists
-  pub sent : List Sent
+  pub sent : List SentCounts
 
 -- such a record, of its three fields in turn
-abbrev pub connected : {B : Type 0} → (Party → B) → Lists → List Sent → Connected B
-connected e l t = record { ends = e; received = l; sent = t }
+abbrev pub connection : {B : Type 0} → (Party → B) → Lists → List SentCounts → Connection B
+connection e l t = record { ends = e; received = l; sent = t }
 
--- the four go through their rounds together, and each is told what the others send to it, and no more
-unfoldable pub connect : {B : Type 0} (r : ℕ) → (Party → Process r B) → Connected B
-connect zero p = connected p silence []
+-- the four go through their rounds together, and each has what the others send to it, and no more
+unfoldable pub connect : {B : Type 0} (r : ℕ) → (Party → Process r B) → Connection B
+connect zero p = connection p silence []
 connect (suc r) p =
     let o = λ (i : Party). (p i).sends in
-    let c = connect r (λ i. (p i).goes_on (λ j. for_party i (o j))) in
-    connected c.ends (in_turn o followed_by c.received) (sent o ∷ c.sent)
+    let c = connect r (λ i. (p i).next (λ j. for_party i (o j))) in
+    connection c.ends (in_turn o followed_by c.received) (sent_lengths o ∷ c.sent)
 
 -- ---- a protocol
 
@@ -75,8 +75,8 @@ connect (suc r) p =
 pub record PlayedApart {S T A B : Type 0} (f : Protocol S T) (before : Party → S → A) (after : Party → T → B)
     : Type 0 where
   pub rounds : ℕ
-  pub timetable : List Sent
+  pub timetable : List SentCounts
   pub program : Party → A → List ℕ → Process rounds B
   pub plays : (s : S) (b : Tapes)
       → connect rounds (λ i. program i (before i s) (tape i b))
-      ≡ connected (λ i. after i (f.result s b)) (f.received s b) timetable
+      ≡ connection (λ i. after i (f.result s b)) (f.received s b) timetable

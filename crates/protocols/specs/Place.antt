@@ -1,5 +1,6 @@
--- Tapes, received lists, the place record and draws. (01, 'Handles, tapes and places')
-use Rattle.std.specs.Prelude.{ℕ, ◌+◌, ◌-◌, Bool, cond, ◌&&◌, List, [], ◌∷◌, ◌++◌, length, take, drop, nat_le, slice_index, Option, Some, None}
+-- Tapes, received lists, the place record and draws.
+use Rattle.std.specs.Prelude.{ℕ, ◌+◌, ◌-◌, nat_le, Bool, cond, ◌&&◌, Option, Some, None}
+use Rattle.std.specs.Prelude.{List, [], ◌∷◌, ◌++◌, length, take, drop, slice_index}
 use Rattle.protocols.specs.declared.place.Party.{Party}
 use Rattle.protocols.specs.declared.place.Party.TheVariants.{Provider, One, Two, Three}
 use Rattle.protocols.specs.declared.place.Drawn.{Drawn}
@@ -9,7 +10,7 @@ use Rattle.protocols.specs.Shares.{Miner, one, two, three}
 
 -- ---- tapes
 
--- 'four tapes (provider, miners 1 to 3)'
+-- the random words of the provider and of the three miners
 pub record Tapes : Type 0 where
   pub provider : List ℕ
   pub one : List ℕ
@@ -60,12 +61,9 @@ cut n t = tapes (take n.provider t.provider) (take n.one t.one) (take n.two t.tw
 abbrev pub rest : Drawn → Tapes → Tapes
 rest n t = tapes (drop n.provider t.provider) (drop n.one t.one) (drop n.two t.two) (drop n.three t.three)
 
-abbrev pub join : Tapes → Tapes → Tapes
-join a b = tapes (a.provider ++ b.provider) (a.one ++ b.one) (a.two ++ b.two) (a.three ++ b.three)
-
 -- ---- received lists
 
--- 'four lists of received words (miners 1 to 3, controller)'
+-- the words that the three miners and the controller receive
 pub record Lists : Type 0 where
   pub one : List ℕ
   pub two : List ℕ
@@ -105,7 +103,7 @@ to_two_three a b = lists [] (a ∷ []) (b ∷ []) []
 abbrev pub to_each : Shares → Lists
 to_each s = lists (s.one ∷ []) (s.two ∷ []) (s.three ∷ []) []
 
--- the controller receives the three shares 'in miner order'
+-- the controller receives the three shares in the miners' order
 abbrev pub in_order : Shares → List ℕ
 in_order s = s.one ∷ s.two ∷ s.three ∷ []
 
@@ -120,7 +118,12 @@ place_of l = record {
   handles = slice_index l 0;
   inputs = slice_index l 1;
   drawn = counts (slice_index l 2) (slice_index l 3) (slice_index l 4) (slice_index l 5);
-  received = record { one = slice_index l 6; two = slice_index l 7; three = slice_index l 8; controller = slice_index l 9 };
+  received = record {
+    one = slice_index l 6;
+    two = slice_index l 7;
+    three = slice_index l 8;
+    controller = slice_index l 9;
+  };
 }
 
 -- moved on by the words drawn
@@ -135,8 +138,13 @@ with_count Two k n = counts n.provider n.one k n.three
 with_count Three k n = counts n.provider n.one n.two k
 
 -- with k more words drawn from one tape
-abbrev pub moved : ℕ → Party → Place → Place
-moved k i p = record { handles = p.handles; inputs = p.inputs; drawn = with_count i (count i p.drawn + k) p.drawn; received = p.received }
+abbrev pub after_draw : ℕ → Party → Place → Place
+after_draw k i p = record {
+  handles = p.handles;
+  inputs = p.inputs;
+  drawn = with_count i (count i p.drawn + k) p.drawn;
+  received = p.received;
+}
 
 -- ---- draws
 
@@ -167,18 +175,18 @@ draw_answer p None = spent_draw p
 unfoldable pub draw : ℕ → Party → List ℕ → Place → Draw (List ℕ)
 draw k i l p =
     cond (nat_le k (length l - count i p.drawn))
-    (draw_of (take k (drop (count i p.drawn) l)) (moved k i p)) (spent_draw p)
+    (draw_of (take k (drop (count i p.drawn) l)) (after_draw k i p)) (spent_draw p)
 
 -- a test of every party
-abbrev pub every : (Party → Bool) → Bool
-every f = f Provider && (f One && (f Two && f Three))
+abbrev pub every_party : (Party → Bool) → Bool
+every_party f = f Provider && (f One && (f Two && f Three))
 
 -- a tape has the words left at the place, and so has every tape
-abbrev pub has : Drawn → Place → Tapes → Party → Bool
-has n p t i = nat_le (count i n) (length (tape i t) - count i p.drawn)
+abbrev pub tape_has : Drawn → Place → Tapes → Party → Bool
+tape_has n p t i = nat_le (count i n) (length (tape i t) - count i p.drawn)
 
 unfoldable pub enough : Drawn → Place → Tapes → Bool
-enough n p t = every (has n p t)
+enough n p t = every_party (tape_has n p t)
 
 -- the next n words of each tape
 unfoldable pub block : Drawn → Place → Tapes → Tapes

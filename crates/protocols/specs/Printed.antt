@@ -1,23 +1,32 @@
--- What is printed of a record of counts or of shares: its numbers in decimal, a space between two.
+-- What is printed of records of counts, of shares and of a shortage.
 use Rattle.std.specs.Prelude.{ℕ, List, [], ◌∷◌, ◌++◌, codes, decimal, flat_map}
 use Rattle.protocols.specs.declared.place.Drawn.{Drawn}
 use Rattle.protocols.specs.declared.place.Received.{Received}
 use Rattle.protocols.specs.declared.place.Place.{Place}
 use Rattle.protocols.specs.declared.shares.Shares.{Shares}
+use Rattle.protocols.specs.declared.outcome.Shortage.{Shortage}
+use Rattle.protocols.specs.declared.outcome.Shortage.TheVariants.{TapeSpent, ListFull}
 
-abbrev pub numbers : List ℕ → List ℕ
-numbers [] = []
-numbers (n ∷ rest) = decimal n ++ flat_map (λ m. codes " " ++ decimal m) rest
+-- numbers in decimal, a space between two
+abbrev pub decimals : List ℕ → List ℕ
+decimals [] = []
+decimals (n ∷ rest) = decimal n ++ flat_map (λ m. codes " " ++ decimal m) rest
 
-abbrev pub drawn : Drawn → List ℕ
-drawn n = numbers (n.provider ∷ n.one ∷ n.two ∷ n.three ∷ [])
+abbrev pub drawn_text : Drawn → List ℕ
+drawn_text n = decimals (n.provider ∷ n.one ∷ n.two ∷ n.three ∷ [])
 
-abbrev pub received : Received → List ℕ
-received n = numbers (n.one ∷ n.two ∷ n.three ∷ n.controller ∷ [])
+abbrev pub received_text : Received → List ℕ
+received_text n = decimals (n.one ∷ n.two ∷ n.three ∷ n.controller ∷ [])
 
 -- handles, inputs, drawn, received
-abbrev pub place : Place → List ℕ
-place p = numbers (p.handles ∷ p.inputs ∷ []) ++ codes " " ++ drawn p.drawn ++ codes " " ++ received p.received
+abbrev pub place_text : Place → List ℕ
+place_text p =
+    decimals (p.handles ∷ p.inputs ∷ []) ++ codes " " ++ drawn_text p.drawn ++ codes " " ++ received_text p.received
 
-abbrev pub shares : Shares → List ℕ
-shares s = numbers (s.one ∷ s.two ∷ s.three ∷ [])
+abbrev pub shares_text : Shares → List ℕ
+shares_text s = decimals (s.one ∷ s.two ∷ s.three ∷ [])
+
+-- what is lacking and what mends it
+abbrev pub shortage : Shortage → List ℕ
+shortage TapeSpent = codes "a tape has fewer words left than are drawn from it; lend more random words"
+shortage ListFull = codes "a received list has room for fewer words than are sent to it; lend a longer list"

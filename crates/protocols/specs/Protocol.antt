@@ -15,8 +15,9 @@ abbrev pub locally : {S T : Type 0} → (S → T) → Protocol S T
 locally f = record { draws = counts 0 0 0 0; result = λ s b. f s; received = λ s b. silence }
 
 -- on a part of what is held
-abbrev pub on : {S T Z : Type 0} → (S → T) → Protocol T Z → Protocol S Z
-on part f = record { draws = f.draws; result = λ s b. f.result (part s) b; received = λ s b. f.received (part s) b }
+abbrev pub from_part : {S T Z : Type 0} → (S → T) → Protocol T Z → Protocol S Z
+from_part part f =
+    record { draws = f.draws; result = λ s b. f.result (part s) b; received = λ s b. f.received (part s) b }
 
 infixr 20 ◌then◌
 -- one after the other
@@ -28,19 +29,19 @@ unfoldable pub ◌then◌ : {S T Z : Type 0} → Protocol S T → Protocol T Z �
 }
 
 -- f, and then the first k of the rounds g
-abbrev pub repeated : {S T : Type 0} → Protocol S T → (ℕ → Protocol T T) → ℕ → Protocol S T
-repeated f g zero = f
-repeated f g (suc k) = repeated f g k then g k
+abbrev pub with_rounds : {S T : Type 0} → Protocol S T → (ℕ → Protocol T T) → ℕ → Protocol S T
+with_rounds f g zero = f
+with_rounds f g (suc k) = with_rounds f g k then g k
 
 -- ---- a protocol on lent tapes, from a place
 
 -- done, with what the miners hold, the words that each party receives, and the moved place; or a tape is spent
-pub data Answer (T : Type 0) : Type 0 where
-  done : T → Lists → Place → Answer T
-  spent : Answer T
+pub data ProtocolAnswer (T : Type 0) : Type 0 where
+  done : T → Lists → Place → ProtocolAnswer T
+  spent : ProtocolAnswer T
 
 -- spent exactly when a tape has fewer words left than the protocol draws from it
-unfoldable pub perform : {S T : Type 0} → Protocol S T → S → Place → Tapes → Answer T
+unfoldable pub perform : {S T : Type 0} → Protocol S T → S → Place → Tapes → ProtocolAnswer T
 perform f s p t =
     let b = block f.draws p t in
     cond (enough f.draws p t) (done (f.result s b) (f.received s b) (advance p f.draws)) spent

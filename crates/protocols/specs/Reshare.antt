@@ -1,4 +1,4 @@
--- Reshare. (001, Resharing a value; 01, The steps)
+-- Reshare: other shares of the same value.
 use Rattle.std.specs.Prelude.{ℕ}
 use Rattle.protocols.specs.declared.shares.Shares.{Shares}
 use Rattle.protocols.specs.Word.{add, sub}
@@ -6,10 +6,14 @@ use Rattle.protocols.specs.Shares.{prev, at, each}
 use Rattle.protocols.specs.Place.{counts, words, to_next}
 use Rattle.protocols.specs.Protocol.{Protocol}
 
--- 'keeps s_i + r_i - r_(i-1)'
-abbrev pub fresh : ℕ → Shares → Shares → Shares
-fresh m s r = each (λ i. sub m (add m (at i s) (at i r)) (at (prev i) r))
+-- each miner adds its own mask and takes off the previous miner's
+abbrev pub fresh_shares : ℕ → Shares → Shares → Shares
+fresh_shares m s r = each (λ i. sub m (add m (at i s) (at i r)) (at (prev i) r))
 
--- 'miner i draws r_i, sends it to the next miner'
+-- each miner draws a mask and sends it to the next
 unfoldable pub reshare : ℕ → Protocol Shares Shares
-reshare m = record { draws = counts 0 1 1 1; result = λ s b. fresh m s (words b 0); received = λ s b. to_next (words b 0) }
+reshare m = record {
+  draws = counts 0 1 1 1;
+  result = λ s b. fresh_shares m s (words b 0);
+  received = λ s b. to_next (words b 0);
+}

@@ -1,4 +1,4 @@
--- Shares of a value for the three miners. (01, 'What the engine covers' and 'Handles, tapes and places')
+-- Shares of a value for the three miners.
 use Rattle.std.specs.Prelude.{ℕ, ◌<◌, List, slice_index, bit_xor}
 use Rattle.protocols.specs.declared.shares.Shares.{Shares}
 use Rattle.protocols.specs.Word.{add}
@@ -6,7 +6,7 @@ use Rattle.protocols.specs.Word.{add}
 pub data Miner : Type 0 where
   one two three : Miner
 
--- 01: 'Miner indices go round: before 1 comes 3'
+-- the miner before: before miner 1 comes miner 3
 abbrev pub prev : Miner → Miner
 prev one = three
 prev two = one
@@ -29,17 +29,17 @@ shares a b c = record { one = a; two = b; three = c }
 abbrev pub shares_of : List ℕ → Shares
 shares_of l = shares (slice_index l 0) (slice_index l 1) (slice_index l 2)
 
--- 01, kind 1: 'three shares add up to it'
+-- a ring value, kind 1, is the sum of its shares
 unfoldable pub sum_of : ℕ → Shares → ℕ
 sum_of m s = add m (add m s.one s.two) s.three
 
--- 01, kind 2: 'shares give it by exclusive or'
+-- a bit word, kind 2, is the exclusive or of its shares
 unfoldable pub xor_of : Shares → ℕ
 xor_of s = bit_xor (bit_xor s.one s.two) s.three
 
 -- each share is a word
-abbrev pub AreWords : ℕ → Shares → Type 0
-AreWords m s = (i : Miner) → at i s < m
+abbrev pub SharesAreWords : ℕ → Shares → Type 0
+SharesAreWords m s = (i : Miner) → at i s < m
 
 -- two values' shares, the operands of a protocol
 pub record Operands : Type 0 where

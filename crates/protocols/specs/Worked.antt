@@ -1,4 +1,4 @@
--- The worked cases of 01, 'Reckoned by hand': 'Marked M: proved together'.
+-- Cases that were reckoned by hand, M1 to M12, with the numbers as they were written down.
 use Rattle.std.specs.Prelude.{◌≡◌, ℕ, [], ◌∷◌, replicate}
 use Rattle.protocols.specs.Word.{modulus, add, bit_at}
 use Rattle.protocols.specs.declared.shares.Shares.{Shares}
@@ -20,8 +20,8 @@ seven = shares 1 2 4
 abbrev pub five : Shares
 five = shares 3 4 4294967294
 
-abbrev pub product : Shares
-product = shares 4294967149 4294966074 1404
+abbrev pub thirty_five : Shares
+thirty_five = shares 4294967149 4294966074 1404
 
 -- u and v, shared in any way
 abbrev pub Sharing : ℕ → ℕ → Operands → Type 0
@@ -34,7 +34,7 @@ product_tapes = tapes [] (10 ∷ 20 ∷ []) (30 ∷ 40 ∷ []) (50 ∷ 60 ∷ []
 abbrev pub open_tapes : Tapes
 open_tapes = tapes [] (70 ∷ []) (80 ∷ []) (90 ∷ [])
 
--- 'b, m12, b12' on miner 1's tape
+-- miner 1's three words for Bit
 abbrev pub bit_tape : ℕ → ℕ → ℕ → Tapes
 bit_tape b m₁₂ b₁₂ = tapes [] (b ∷ m₁₂ ∷ b₁₂ ∷ []) [] []
 
@@ -43,50 +43,54 @@ abbrev pub one_word : ℕ → Tapes
 one_word r = tapes [] (r ∷ replicate 14 0) (replicate 12 0) (replicate 12 0)
 
 -- shares of 0 and masks of 0: p before the rounds of Equal is all ones xor the word x
-abbrev pub folding : ℕ → ℕ
-folding x = bit_at (xor_of ((folds 5 5).result (operands (shares 0 x 0) (shares 0 0 0)) (one_word 0)).p) 0
+abbrev pub folded_bit : ℕ → ℕ
+folded_bit x = bit_at (xor_of ((folds 5 5).result (operands (shares 0 x 0) (shares 0 0 0)) (one_word 0)).p) 0
 
 -- promised by `worked`: the cases that were reckoned by hand come out of the definitions
 pub record Worked : Type 0 where
-  -- 'store 7, tape 1, 2: shares 1, 2, 4'
+  -- store 7, with 1 and 2 on the provider's tape
   pub M1 : (store (modulus 5)).result 7 (tapes (1 ∷ 2 ∷ []) [] [] []) ≡ seven
   pub M1_received : (store (modulus 5)).received 7 (tapes (1 ∷ 2 ∷ []) [] [] []) ≡ lists (1 ∷ []) (2 ∷ []) (4 ∷ []) []
-  -- 'store 5, tape 3, 4: 3, 4, 4294967294'
+  -- store 5, with 3 and 4
   pub M2 : (store (modulus 5)).result 5 (tapes (3 ∷ 4 ∷ []) [] [] []) ≡ five
   pub M2_received : (store (modulus 5)).received 5 (tapes (3 ∷ 4 ∷ []) [] [] [])
       ≡ lists (3 ∷ []) (4 ∷ []) (4294967294 ∷ []) []
-  -- 'their product, tapes (10, 20), (30, 40), (50, 60): 4294967149, 4294966074, 1404'
-  pub M3 : (multiply (modulus 5)).result (operands seven five) product_tapes ≡ product
+  -- their product, with 10, 20 on miner 1's tape, 30, 40 on miner 2's and 50, 60 on miner 3's
+  pub M3 : (multiply (modulus 5)).result (operands seven five) product_tapes ≡ thirty_five
   -- each miner receives the previous miner's r, s, and then its masked share of each operand
   pub M3_received : (multiply (modulus 5)).received (operands seven five) product_tapes
       ≡ lists (50 ∷ 60 ∷ 24 ∷ 18 ∷ []) (10 ∷ 20 ∷ 4294967257 ∷ 4294967259 ∷ []) (30 ∷ 40 ∷ 22 ∷ 24 ∷ []) []
-  -- 'opening it, draws 70, 80, 90: 4294967129, 4294966084, 1414; word 35'
-  pub M4 : (opening (modulus 5)).result product open_tapes ≡ shares 4294967129 4294966084 1414
-  pub M4_received : (opening (modulus 5)).received product open_tapes
+  -- opening it, with 70, 80 and 90: the word is 35
+  pub M4 : (opening (modulus 5)).result thirty_five open_tapes ≡ shares 4294967129 4294966084 1414
+  pub M4_received : (opening (modulus 5)).received thirty_five open_tapes
       ≡ lists (90 ∷ []) (70 ∷ []) (80 ∷ []) (4294967129 ∷ 4294966084 ∷ 1414 ∷ [])
-  pub M4_word : sum_of (modulus 5) ((opening (modulus 5)).result product open_tapes) ≡ 35
-  -- 'Bit, shares 1, 0, 1, b = 1, m12 = 5, b12 = 0: 0, 5, 4294967291'
+  pub M4_word : sum_of (modulus 5) ((opening (modulus 5)).result thirty_five open_tapes) ≡ 35
+  -- Bit of the shares 1, 0, 1, with b = 1, m₁₂ = 5, b₁₂ = 0
   pub M5 : (bit (modulus 5) 0).result (shares 1 0 1) (bit_tape 1 5 0) ≡ shares 0 5 4294967291
   pub M5_received : (bit (modulus 5) 0).received (shares 1 0 1) (bit_tape 1 5 0)
       ≡ lists [] (5 ∷ 0 ∷ 0 ∷ []) (4294967291 ∷ 1 ∷ 0 ∷ []) []
-  -- 'shares 0, 1, 0, b = 0, m12 = 5, b12 = 0: 0, 4294967292, 5'
+  -- Bit of the shares 0, 1, 0, with b = 0, m₁₂ = 5, b₁₂ = 0
   pub M6 : (bit (modulus 5) 0).result (shares 0 1 0) (bit_tape 0 5 0) ≡ shares 0 4294967292 5
   pub M6_received : (bit (modulus 5) 0).received (shares 0 1 0) (bit_tape 0 5 0)
       ≡ lists [] (5 ∷ 0 ∷ 0 ∷ []) (4294967291 ∷ 0 ∷ 1 ∷ []) []
-  -- 'v = 1, r = 4294967295: carries 4294967295, sum 0': shares of 0, from which v = 0 - r = 1
+  -- Bits of 0 with r = 4294967295, so that v = 0 - r = 1: a carry at every position, and the sum 0
   pub M7_value : let d = (deal 5).result (shares 0 0 0) (one_word 4294967295) in add (modulus 5) d.v2 d.v3 ≡ 1
   pub M7_carries : xor_of ((rounds 5 5).result (shares 0 0 0) (one_word 4294967295)).s ≡ 4294967295
   pub M7_sum : xor_of ((bits 5).result (shares 0 0 0) (one_word 4294967295)) ≡ 0
-  -- 'folding all ones gives 1'
+  -- all ones fold to 1
   pub M8_ones : xor_of ((folds 5 0).result (operands (shares 0 0 0) (shares 0 0 0)) (one_word 0)).p ≡ 4294967295
-  pub M8 : folding 0 ≡ 1
-  -- 'folding 4294967294 gives 0'
+  pub M8 : folded_bit 0 ≡ 1
+  -- 4294967294 folds to 0
   pub M9_start : xor_of ((folds 5 0).result (operands (shares 0 1 0) (shares 0 0 0)) (one_word 0)).p ≡ 4294967294
-  pub M9 : folding 1 ≡ 0
-  -- '65536 times 65536 is 0', however they are shared and whatever is drawn
-  pub M10 : (x : Operands) (b : Tapes) → Sharing 65536 65536 x → sum_of (modulus 5) ((multiply (modulus 5)).result x b) ≡ 0
-  -- '3 below 5 is 1, 5 below 5 is 0'
-  pub M11_less : (x : Operands) (b : Tapes) → Contents (modulus 5) (below 5).draws b → Sharing 3 5 x → sum_of (modulus 5) ((below 5).result x b) ≡ 1
-  pub M11_equal : (x : Operands) (b : Tapes) → Contents (modulus 5) (below 5).draws b → Sharing 5 5 x → sum_of (modulus 5) ((below 5).result x b) ≡ 0
-  -- '4294967295 below 0 is 1 by this rule'
-  pub M12 : (x : Operands) (b : Tapes) → Contents (modulus 5) (below 5).draws b → Sharing 4294967295 0 x → sum_of (modulus 5) ((below 5).result x b) ≡ 1
+  pub M9 : folded_bit 1 ≡ 0
+  -- 65536 times 65536 is 0, however they are shared and whatever is drawn
+  pub M10 : (x : Operands) (b : Tapes) → Sharing 65536 65536 x
+      → sum_of (modulus 5) ((multiply (modulus 5)).result x b) ≡ 0
+  -- 3 is below 5, and 5 is not below 5
+  pub M11_less : (x : Operands) (b : Tapes) → Contents (modulus 5) (below 5).draws b → Sharing 3 5 x
+      → sum_of (modulus 5) ((below 5).result x b) ≡ 1
+  pub M11_equal : (x : Operands) (b : Tapes) → Contents (modulus 5) (below 5).draws b → Sharing 5 5 x
+      → sum_of (modulus 5) ((below 5).result x b) ≡ 0
+  -- by the highest bit of the difference 4294967295 is below 0
+  pub M12 : (x : Operands) (b : Tapes) → Contents (modulus 5) (below 5).draws b → Sharing 4294967295 0 x
+      → sum_of (modulus 5) ((below 5).result x b) ≡ 1

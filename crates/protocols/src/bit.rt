@@ -1,11 +1,12 @@
-// Bit.
+//! Bit: one position of a bit word as a ring value.
 ghost use Rattle.std.specs.Prelude.{◌≡◌, ◌≤◌, [], length};
-ghost use Rattle.protocols.specs.Word.{modulus, bit_at, low};
+ghost use Rattle.protocols.specs.Word.{modulus, bit_at, low_bit};
 ghost use Rattle.protocols.specs.Protocol.{perform};
-ghost use Rattle.protocols.specs.Place.{tapes, lists};
-ghost use Rattle.protocols.specs.Outcome.{outcome, delivered, delivery, fronts};
-ghost use Rattle.protocols.specs.Lent.{tapes_of, lists_of, Same};
+ghost use Rattle.protocols.specs.Place.{lists};
+ghost use Rattle.protocols.specs.Outcome.{outcome, delivery_of, delivery, with_fronts};
+ghost use Rattle.protocols.specs.Lent.{tapes_of, lists_of, SameLists};
 ghost use Rattle.protocols.specs.Bit as spec;
+ghost use Rattle.protocols.specs.Private.Lending.{tape_of_one};
 
 use super::lent::{Lists, Tapes};
 use super::outcome::{Done, Shortage};
@@ -23,21 +24,23 @@ fn bit_at(x: u32, j: u32) -> u32
     (x >> j) & 1
 }
 
+// The bit of each share at a position.
 fn bits_at(u: Shares, j: u32) -> Shares
     ensures { result ≡ spec.bits_at j u }
 {
     u.map(|x| bit_at(x, j))
 }
 
+// The lowest bit, which of a drawn word is a random bit.
 fn low_bit(x: u32) -> u32
-    ensures { result ≡ low x }
+    ensures { result ≡ low_bit x }
 {
     x & 1
 }
 
 // The new shares, by the bit s that miners 2 and 3 learn, from the words x and y that miner 1 dealt them.
-fn chosen(s: u32, x: u32, y: u32) -> Shares
-    ensures { result ≡ spec.chosen (modulus 5) s x y }
+fn chosen_shares(s: u32, x: u32, y: u32) -> Shares
+    ensures { result ≡ spec.chosen_shares (modulus 5) s x y }
 {
     if s == 0 {
         Shares::from([0, x, y])
@@ -46,8 +49,8 @@ fn chosen(s: u32, x: u32, y: u32) -> Shares
     }
 }
 
-// The conversion, on the words drawn of miner 1's tape, and for miners 2 and 3 alone. (It is lent those one by one, since Equal and Below
-// lend it the tails of two lists.)
+// Bit on the three words drawn of miner 1's tape. It is lent the lists of miners 2 and 3 one by one, since Equal and
+// Below lend it the tails of theirs.
 #[tactic(auto, unfolding(crate::specs::Bit::bit))]
 #[inline(always)]
 pub(crate) fn convert(
@@ -57,8 +60,11 @@ pub(crate) fn convert(
     list2: &mut [u32],
     list3: &mut [u32],
 ) -> Shares
-    requires { (3 ≤ length list2.old) × (3 ≤ length list3.old) }
-    ensures { let w = tapes [] words.now [] [] in (result ≡ (spec.bit (modulus 5) j).result u w) × (lists [] list2.new list3.new [] ≡ fronts (lists [] list2.old list3.old []) ((spec.bit (modulus 5) j).received u w)) }
+    requires two { 3 ≤ length list2.old }
+    requires three { 3 ≤ length list3.old }
+    ensures shares { result ≡ (spec.bit (modulus 5) j).result u (tape_of_one words.now) }
+    ensures sent { lists [] list2.new list3.new []
+        ≡ with_fronts (lists [] list2.old list3.old []) ((spec.bit (modulus 5) j).received u (tape_of_one words.now)) }
 {
     let [word_b, m12, word_b12] = *words;
     let v = bits_at(u, j);
@@ -70,10 +76,17 @@ pub(crate) fn convert(
     let s32 = b13 ^ v.three;
     list::put(list2, 0, &[m12, b12, s32]);
     list::put(list3, 0, &[m13, b13, s23]);
-    chosen(s23 ^ s32, m12, m13)
+    chosen_shares(s23 ^ s32, m12, m13)
 }
 
-// Bit j of a bit word as a ring value.
+/// Shares by sum of bit `j` of the word of which `u` are shares by exclusive or; of 0 where `j` is 32 or more.
+///
+/// Draws 3 words of miner 1's tape.
+/// Sends 3 words to each of miners 2 and 3.
+///
+/// # Errors
+/// `TapeSpent` where a tape has fewer words left at `place`, `ListFull` where a list has less room. Then nothing is
+/// drawn or written.
 #[tactic(auto, using(crate::proofs::Laws::Lent::bit_performs), unfolding(crate::specs::Bit::bit))]
 #[inline(always)]
 pub fn bit(
@@ -83,8 +96,9 @@ pub fn bit(
     tapes: &Tapes,
     lists: &mut Lists,
 ) -> Result<Done, Shortage>
-    ensures same { Same lists.old lists.new }
-    ensures done { delivered (outcome place result) (lists_of lists.new) ≡ delivery place (perform (spec.bit (modulus 5) j) u place (tapes_of tapes.now)) (lists_of lists.old) }
+    ensures same { SameLists lists.old lists.new }
+    ensures done { delivery_of (outcome place result) (lists_of lists.new)
+        ≡ delivery place (perform (spec.bit (modulus 5) j) u place (tapes_of tapes.now)) (lists_of lists.old) }
 {
     let Some((words, next)) = place.draw::<3>(Party::One, tapes.one) else {
         return Err(Shortage::TapeSpent);

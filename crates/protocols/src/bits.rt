@@ -1,16 +1,18 @@
-// Bits.
+//! Bits: a ring value as a bit word.
 ghost use Rattle.std.specs.Prelude.{◌≡◌, ◌+◌, ◌*◌, [], bit_and};
 ghost use Rattle.protocols.specs.Word.{modulus, width};
 ghost use Rattle.protocols.specs.Shares.{at, each};
-ghost use Rattle.protocols.specs.Place.{tapes, lists, to_next, to_two_three, ◌followed_by◌};
+ghost use Rattle.protocols.specs.Place.{tapes, lists};
 ghost use Rattle.protocols.specs.Protocol.{perform};
-ghost use Rattle.protocols.specs.Outcome.{outcome, delivered, delivery, fronts, puts};
-ghost use Rattle.protocols.specs.Counts.{received};
-ghost use Rattle.protocols.specs.Lent.{tapes_of, lists_of, Same, Room, Block};
-ghost use Rattle.protocols.specs.Masked.{masked};
-ghost use Rattle.protocols.specs.WordForm as word;
+ghost use Rattle.protocols.specs.Outcome.{outcome, delivery_of, delivery, with_fronts};
+ghost use Rattle.protocols.specs.Lent.{tapes_of, lists_of, SameLists};
+ghost use Rattle.protocols.specs.Private.Lending.{HaveRoom, Block, tape_of_one, with_words_at};
+ghost use Rattle.protocols.specs.Private.WordForm as word;
 ghost use Rattle.protocols.specs.Bits as spec;
+ghost use Rattle.protocols.specs.Private.Bits as private;
+ghost use Rattle.protocols.specs.declared.shares.Shares as value;
 
+use super::fixed_lengths::FixedLengths;
 use super::lent::{Lists, Tapes};
 use super::masked::Round;
 use super::outcome::{Done, Shortage};
@@ -18,22 +20,31 @@ use super::place::Place;
 use super::shares::Shares;
 use super::{list, masked, ring};
 
-// What the dealing leaves miners 2 and 3: the words that they exchange, and R2 and R3 (`bar2`, `bar3`).
+/// What the dealing gives miners 2 and 3, each its own: a masked share, and a share of the mask r.
 #[derive(Clone, Copy)]
-pub struct Dealt {
+pub struct Dealing {
+    /// Miner 2's masked share, which it sends to miner 3.
     pub v2: u32,
+    /// Miner 3's masked share, which it sends to miner 2.
     pub v3: u32,
+    /// Miner 2's share of the mask r, by exclusive or.
     pub bar2: u32,
+    /// Miner 3's share of the mask r, by exclusive or.
     pub bar3: u32,
 }
 
-// What the miners hold before a round: p and s, its masks q and t, and the shares that the result takes up again.
+/// What the miners hold before a round.
 #[derive(Clone, Copy)]
-pub struct Held {
+pub struct CarryState {
+    /// Shares of the positions through which a carry passes.
     pub p: Shares,
+    /// Shares of the positions at which a carry arises.
     pub s: Shares,
+    /// The masks of `p` in this round.
     pub q: Shares,
+    /// The masks of `s` in this round.
     pub t: Shares,
+    /// `p` as it was before the first round, which the result takes up again.
     pub base: Shares,
 }
 
@@ -70,14 +81,14 @@ fn clear(round: Round, x: u32) -> u32
     x & CLEAR[round.k as usize]
 }
 
-// Each miner's word, spread.
+// Of each miner's word every source's bit, at the positions that take from it in round k.
 fn spread_each(round: Round, x: Shares) -> Shares
     ensures { result ≡ each (λ i. word.spread 5 round.k (at i x)) }
 {
     x.map(|x| spread(round, x))
 }
 
-// Each miner's word, cleared so.
+// Each miner's word where bit k of the position is clear, and 0 elsewhere.
 fn clear_each(round: Round, x: Shares) -> Shares
     ensures { result ≡ each (λ i. bit_and (at i x) (word.clear 5 round.k)) }
 {
@@ -85,12 +96,12 @@ fn clear_each(round: Round, x: Shares) -> Shares
 }
 
 // Round k on every miner's masked shares, with the masks of the next round.
-fn carried(round: Round, p: Shares, s: Shares, q: Shares, t: Shares, base: Shares) -> Held
-    ensures { result ≡ spec.carried (width 5) round.k p s q t base }
+fn carry_round(round: Round, p: Shares, s: Shares, q: Shares, t: Shares, base: Shares) -> CarryState
+    ensures { result ≡ spec.carry_round (width 5) round.k p s q t base }
 {
     let carry = masked::and_shares(p, spread_each(round, s));
     let both = masked::and_shares(p, spread_each(round, p));
-    Held {
+    CarryState {
         p: clear_each(round, p).zip(both, masked::xor),
         s: s.zip(carry, masked::xor),
         q,
@@ -100,13 +111,13 @@ fn carried(round: Round, p: Shares, s: Shares, q: Shares, t: Shares, base: Share
 }
 
 // What the miners hold before the first round, with its masks.
-fn begun(dealt: Dealt, q: Shares, t: Shares) -> Held
-    ensures { result ≡ spec.begun (modulus 5) dealt q t }
+fn first_state(dealing: Dealing, q: Shares, t: Shares) -> CarryState
+    ensures { result ≡ spec.first_state (modulus 5) dealing q t }
 {
-    let Dealt { v2, v3, bar2, bar3 } = dealt;
+    let Dealing { v2, v3, bar2, bar3 } = dealing;
     let v = ring::add(v2, v3);
     let p = Shares::from([0, v ^ bar2, bar3]);
-    Held {
+    CarryState {
         p,
         s: Shares::from([0, v & bar2, v & bar3]),
         q,
@@ -116,151 +127,154 @@ fn begun(dealt: Dealt, q: Shares, t: Shares) -> Held
 }
 
 // The result: s shifted up by one, with p as it was before the rounds.
-#[tactic(auto, unfolding(crate::specs::Word::up))]
-fn joined(h: Held) -> Shares
-    ensures { result ≡ spec.joined (width 5) h }
+#[tactic(auto, unfolding(crate::specs::Word::shift_up))]
+fn sum_bits(h: CarryState) -> Shares
+    ensures { result ≡ spec.sum_bits (width 5) h }
 {
     h.s.zip(h.base, |s, base| (s << 1) ^ base)
 }
 
 // The dealing and the exchange, with the masks of the first round sent on.
 #[tactic(auto, unfolding(crate::specs::Bits::deal))]
-fn deal(u: Shares, words: &[u32; 3], q: Shares, t: Shares, lists: &mut Lists) -> Held
-    requires { Room 22 25 25 (lists_of lists.old) }
-    ensures same { Same lists.old lists.new }
-    ensures room { Room 22 25 25 (lists_of lists.new) }
-    ensures dealt { let w = tapes [] words.now [] [] in let d = (spec.deal 5).result u w in (result ≡ spec.begun (modulus 5) d q t) × (lists_of lists.new ≡ fronts (lists_of lists.old) ((spec.deal 5).received u w followed_by to_next q followed_by to_next t followed_by to_two_three d.v3 d.v2)) }
+fn deal(
+    u: Shares,
+    words: &[u32; 3],
+    q: Shares,
+    t: Shares,
+    one: &mut [u32],
+    two: &mut [u32],
+    three: &mut [u32],
+) -> CarryState
+    requires { HaveRoom 22 25 25 (lists one.old two.old three.old []) }
+    ensures held { result ≡ private.state_before_rounds 5 u (tape_of_one words.now) q t }
+    ensures sent { lists one.new two.new three.new []
+        ≡ with_fronts (lists one.old two.old three.old [])
+        (private.sent_before_rounds 5 u (tape_of_one words.now) q t) }
 {
     let [r, r2, bar2] = *words;
     let r3 = ring::sub(ring::sub(u.one, r), r2);
     let bar3 = r ^ bar2;
-    let dealt = Dealt {
+    let dealing = Dealing {
         v2: ring::add(u.two, r2),
         v3: ring::add(u.three, r3),
         bar2,
         bar3,
     };
-    list::put(lists.one, 0, &[q.three, t.three]);
-    list::put(lists.two, 0, &[r2, bar2, q.one, t.one, dealt.v3]);
-    list::put(lists.three, 0, &[r3, bar3, q.two, t.two, dealt.v2]);
-    begun(dealt, q, t)
+    list::put(one, 0, &[q.three, t.three]);
+    list::put(two, 0, &[r2, bar2, q.one, t.one, dealing.v3]);
+    list::put(three, 0, &[r3, bar3, q.two, t.two, dealing.v2]);
+    first_state(dealing, q, t)
 }
 
 // Round k: the masked shares and the masks of the next round sent on, and what the miners then hold.
 #[inline(always)]
-fn round(round: Round, held: Held, q: Shares, t: Shares, lists: &mut Lists) -> Held
-    requires { Room 22 25 25 (lists_of lists.old) }
-    ensures same { Same lists.old lists.new }
-    ensures room { Room 22 25 25 (lists_of lists.new) }
-    ensures carried { let p = masked held.p held.q in let s = masked held.s held.t in let w = to_next p followed_by to_next s followed_by to_next q followed_by to_next t in (result ≡ spec.carried (width 5) round.k p s q t held.base) × (lists_of lists.new ≡ puts (let n = 4 * round.k in received (2 + n) (5 + n) (5 + n) 0) (lists_of lists.old) w) }
+fn round(
+    round: Round,
+    held: CarryState,
+    q: Shares,
+    t: Shares,
+    one: &mut [u32],
+    two: &mut [u32],
+    three: &mut [u32],
+) -> CarryState
+    requires { HaveRoom 22 25 25 (lists one.old two.old three.old []) }
+    ensures held { result ≡ spec.after_round (width 5) round.k held q t }
+    ensures sent { lists one.new two.new three.new []
+        ≡ with_words_at (private.received_before round.k) (lists one.old two.old three.old [])
+        (spec.sent_in_round held q t) }
 {
-    let p = masked::masked(held.p, held.q);
-    let s = masked::masked(held.s, held.t);
+    let p = masked::masked_shares(held.p, held.q);
+    let s = masked::masked_shares(held.s, held.t);
     let sent = 4 * round.k as usize;
-    lists.pass(2 + sent, 5 + sent, &[p, s, q, t]);
-    carried(round, p, s, q, t, held.base)
+    list::pass(one, two, three, 2 + sent, 5 + sent, &[p, s, q, t]);
+    carry_round(round, p, s, q, t, held.base)
 }
 
-// The dealing and the rounds, on the words drawn: three of miner 1, then the masks q and t of each miner for the dealing and for each round.
-// (The rounds are written out: so the entries of `SOURCES` and `CLEAR` and the places of the words are constants.)
+// Bits on the words drawn: three of miner 1, then the masks q and t of each miner for the exchange and for each round.
+// The rounds are written out, so that the entries of `SOURCES` and `CLEAR` and the places of the words are constants.
 #[inline(always)]
-fn rounds(u: Shares, words: Tapes, lists: &mut Lists) -> Shares
-    requires { Block 15 12 12 (tapes_of words) × Room 22 25 25 (lists_of lists.old) }
-    ensures same { Same lists.old lists.new }
-    ensures done { (result ≡ (spec.bits 5).result u (tapes_of words.entry)) × (lists_of lists.new ≡ fronts (lists_of lists.old) ((spec.bits 5).received u (tapes_of words.entry))) }
-{
-    let dealer = [words.one[0], words.one[1], words.one[2]];
-    let held = deal(u, &dealer, words.at(3, 0), words.at(3, 1), lists);
-    let held = round(Round { k: 0 }, held, words.at(3, 2), words.at(3, 3), lists);
-    let held = round(Round { k: 1 }, held, words.at(3, 4), words.at(3, 5), lists);
-    let held = round(Round { k: 2 }, held, words.at(3, 6), words.at(3, 7), lists);
-    let held = round(Round { k: 3 }, held, words.at(3, 8), words.at(3, 9), lists);
-    let held = round(
-        Round { k: 4 },
-        held,
-        words.at(3, 10),
-        words.at(3, 11),
-        lists,
-    );
-    joined(held)
-}
-
-// The same on lists that are lent one by one, as Bits and Below have them.
-#[inline(always)]
-pub(crate) fn rounds_on(
+pub(crate) fn rounds(
     u: Shares,
     words: Tapes,
     one: &mut [u32],
     two: &mut [u32],
     three: &mut [u32],
 ) -> Shares
-    requires { Block 15 12 12 (tapes_of words) × Room 22 25 25 (lists one.old two.old three.old []) }
-    ensures { (result ≡ (spec.bits 5).result u (tapes_of words.entry)) × (lists one.new two.new three.new [] ≡ fronts (lists one.old two.old three.old []) ((spec.bits 5).received u (tapes_of words.entry))) }
+    requires block { Block 15 12 12 (tapes_of words) }
+    requires room { HaveRoom 22 25 25 (lists one.old two.old three.old []) }
+    ensures shares { result ≡ (spec.bits 5).result u (tapes_of words.entry) }
+    ensures sent { lists one.new two.new three.new []
+        ≡ with_fronts (lists one.old two.old three.old []) ((spec.bits 5).received u (tapes_of words.entry)) }
 {
-    let mut lists = Lists {
-        one,
-        two,
-        three,
-        controller: &mut [],
-    };
-    rounds(u, words, &mut lists)
+    let dealer = [words.one[0], words.one[1], words.one[2]];
+    let (q, t) = (words.at(3, 0), words.at(3, 1));
+    let held = deal(u, &dealer, q, t, one, two, three);
+    let (q, t) = (words.at(3, 2), words.at(3, 3));
+    let held = round(Round { k: 0 }, held, q, t, one, two, three);
+    let (q, t) = (words.at(3, 4), words.at(3, 5));
+    let held = round(Round { k: 1 }, held, q, t, one, two, three);
+    let (q, t) = (words.at(3, 6), words.at(3, 7));
+    let held = round(Round { k: 2 }, held, q, t, one, two, three);
+    let (q, t) = (words.at(3, 8), words.at(3, 9));
+    let held = round(Round { k: 3 }, held, q, t, one, two, three);
+    let (q, t) = (words.at(3, 10), words.at(3, 11));
+    let held = round(Round { k: 4 }, held, q, t, one, two, three);
+    sum_bits(held)
 }
 
-// Bits on the words drawn, with room for just the words received. (A call of its own, since it is too long to stand in the run of
-// commands; on arrays, so that no length is handed over and no place tested.)
-#[inline(never)]
-fn on_words(
+// Bits, as a protocol of fixed lengths. `compute` is a call of its own: it is too long to stand in the run of commands.
+#[derive(Clone, Copy)]
+struct Decomposition {
     u: Shares,
-    tape1: &[u32; 15],
-    tape2: &[u32; 12],
-    tape3: &[u32; 12],
-    one: &mut [u32; 22],
-    two: &mut [u32; 25],
-    three: &mut [u32; 25],
-) -> Shares
-    ensures { let w = tapes [] tape1.now tape2.now tape3.now in (result ≡ (spec.bits 5).result u w) × (lists one.new two.new three.new [] ≡ (spec.bits 5).received u w) }
-{
-    let words = Tapes {
-        provider: &[],
-        one: tape1,
-        two: tape2,
-        three: tape3,
-    };
-    rounds_on(u, words, one, two, three)
 }
 
-// Bits, on lists that are lent one by one. (Of a list within a lent struct the check does not tell what it holds after a part of it was
-// lent on, so this is no part of `bits`.)
-#[inline(always)]
-fn bits_on(
-    u: Shares,
-    place: Place,
-    tapes: Tapes,
-    one: &mut [u32],
-    two: &mut [u32],
-    three: &mut [u32],
-) -> Result<Done, Shortage>
-    ensures { delivered (outcome place result) (lists one.new two.new three.new []) ≡ delivery place (perform (spec.bits 5) u place (tapes_of tapes.entry)) (lists one.old two.old three.old []) }
-{
-    let Some(((tape1, tape2, tape3), next)) = place.draw_block::<15, 12>(&tapes) else {
-        return Err(Shortage::TapeSpent);
-    };
-    if !list::have_room(one, two, three, 22, 25, 25) {
-        return Err(Shortage::ListFull);
+impl FixedLengths<15, 12, 22, 25> for Decomposition {
+    ghost Operands = { value.Shares };
+
+    ghost operands = { λ s. s.u };
+
+    ghost protocol = { spec.bits 5 };
+
+    ghost input_of = { λ u. u };
+
+    #[inline(always)]
+    fn input(&self) -> Shares {
+        self.u
     }
-    // Just so many words of each, which `have_room` has shown to be there.
-    let (one, two, three) = (list::front(one), list::front(two), list::front(three));
-    Ok(Done {
-        shares: on_words(u, tape1, tape2, tape3, one, two, three),
-        place: next,
-    })
+
+    #[inline(never)]
+    fn compute(
+        u: Shares,
+        tape1: &[u32; 15],
+        tape2: &[u32; 12],
+        tape3: &[u32; 12],
+        one: &mut [u32; 22],
+        two: &mut [u32; 25],
+        three: &mut [u32; 25],
+    ) -> Shares {
+        let words = Tapes {
+            provider: &[],
+            one: tape1,
+            two: tape2,
+            three: tape3,
+        };
+        rounds(u, words, one, two, three)
+    }
 }
 
-// The bits of a ring value, as a bit word.
+/// Shares by exclusive or of the word of which `u` are shares by sum.
+///
+/// Draws 15 words of miner 1's tape and 12 of each other miner's.
+/// Sends 22 words to miner 1 and 25 to each other miner.
+///
+/// # Errors
+/// `TapeSpent` where a tape has fewer words left at `place`, `ListFull` where a list has less room. Then nothing is
+/// drawn or written.
 #[inline(always)]
 pub fn bits(u: Shares, place: Place, tapes: &Tapes, lists: &mut Lists) -> Result<Done, Shortage>
-    ensures same { Same lists.old lists.new }
-    ensures done { delivered (outcome place result) (lists_of lists.new) ≡ delivery place (perform (spec.bits 5) u place (tapes_of tapes.now)) (lists_of lists.old) }
+    ensures same { SameLists lists.old lists.new }
+    ensures done { delivery_of (outcome place result) (lists_of lists.new)
+        ≡ delivery place (perform (spec.bits 5) u place (tapes_of tapes.now)) (lists_of lists.old) }
 {
-    bits_on(u, place, *tapes, lists.one, lists.two, lists.three)
+    Decomposition { u }.deliver(place, tapes, lists)
 }

@@ -1,15 +1,16 @@
-// Draws by every miner at once. (Each draw is taken apart by `let .. else`, here and in the protocols: see `Place::draw`.)
+//! Draws by every miner at once.
 ghost use Rattle.std.specs.Prelude.{◌≡◌};
 ghost use Rattle.protocols.specs.Place.{counts, draw_answer};
 ghost use Rattle.protocols.specs.Draws.{draw_each, draw_pairs, draw_block};
-ghost use Rattle.protocols.specs.Lent.{tapes_of, drawn_block};
+ghost use Rattle.protocols.specs.Lent.{tapes_of, lent_blocks};
 
 use super::lent::Tapes;
 use super::place::{Party, Place};
 use super::shares::Shares;
 
 impl Place {
-    // So many words of each miner's tape at once. (Miners 2 and 3 always draw alike.)
+    /// The next `ONE` words of miner 1's tape and the next `OTHERS` of each other miner's, with the moved place; `None`
+    /// where a tape has fewer words left.
     #[tactic(auto, using(crate::proofs::Laws::Draws::block_in_turn))]
     #[inline(always)]
     pub fn draw_block<'a, const ONE: usize, const OTHERS: usize>(
@@ -21,7 +22,7 @@ impl Place {
             Place,
         ),
     >
-        ensures { draw_answer self (drawn_block result)
+        ensures { draw_answer self (lent_blocks result)
             ≡ draw_block (counts 0 ONE OTHERS OTHERS) self (tapes_of tapes.now) }
     {
         let Some((one, place1)) = self.draw::<ONE>(Party::One, tapes.one) else {
@@ -36,7 +37,7 @@ impl Place {
         Some(((one, two, three), place3))
     }
 
-    // A word of each miner's tape.
+    /// The next word of each miner's tape, with the moved place; `None` where a tape has none left.
     #[tactic(auto, using(crate::proofs::Laws::Draws::each_of_block))]
     #[inline(always)]
     pub fn draw_each(self, tapes: &Tapes) -> Option<(Shares, Place)>
@@ -48,7 +49,8 @@ impl Place {
         Some((Shares { one, two, three }, next))
     }
 
-    // Two words of each miner's tape: the first ones, the second ones.
+    /// The next two words of each miner's tape, the first ones and the second ones, with the moved place; `None` where
+    /// a tape has fewer words left.
     #[tactic(auto, using(crate::proofs::Laws::Draws::pairs_of_block))]
     #[inline(always)]
     pub fn draw_pairs(self, tapes: &Tapes) -> Option<((Shares, Shares), Place)>

@@ -1,17 +1,18 @@
-// Equal.
+//! Equal: 1 if two ring values are equal, else 0.
 ghost use Rattle.std.specs.Prelude.{◌≡◌, ◌+◌, ◌*◌, ◌/◌, ◌^◌, [], bit_and};
 ghost use Rattle.protocols.specs.Word.{modulus, width};
 ghost use Rattle.protocols.specs.Shares.{at, each, Operands, operands};
 ghost use Rattle.protocols.specs.Local.{difference};
-ghost use Rattle.protocols.specs.Place.{tapes, lists, to_next, ◌followed_by◌};
+ghost use Rattle.protocols.specs.Place.{tapes, lists};
 ghost use Rattle.protocols.specs.Protocol.{perform};
-ghost use Rattle.protocols.specs.Outcome.{outcome, delivered, delivery, fronts, puts};
-ghost use Rattle.protocols.specs.Counts.{received};
-ghost use Rattle.protocols.specs.Lent.{tapes_of, lists_of, Same, Room, Block};
-ghost use Rattle.protocols.specs.Masked.{masked};
-ghost use Rattle.protocols.specs.WordForm as word;
+ghost use Rattle.protocols.specs.Outcome.{outcome, delivery_of, delivery, with_fronts};
+ghost use Rattle.protocols.specs.Lent.{tapes_of, lists_of, SameLists};
+ghost use Rattle.protocols.specs.Private.Lending.{HaveRoom, Block, tape_of_one, with_words_at};
+ghost use Rattle.protocols.specs.Private.WordForm as word;
 ghost use Rattle.protocols.specs.Equal as spec;
+ghost use Rattle.protocols.specs.Private.Equal as private;
 
+use super::fixed_lengths::FixedLengths;
 use super::lent::{Lists, Tapes};
 use super::masked::Round;
 use super::outcome::{Done, Shortage};
@@ -19,10 +20,12 @@ use super::place::Place;
 use super::shares::Shares;
 use super::{bit, list, local, masked, ring};
 
-// What the miners hold before a round: p, and its masks q.
+/// What the miners hold before a round.
 #[derive(Clone, Copy)]
-pub struct Folding {
+pub struct FoldState {
+    /// Shares of the word that is folded.
     pub p: Shares,
+    /// The masks of `p` in this round.
     pub q: Shares,
 }
 
@@ -59,14 +62,14 @@ fn others(round: Round, x: u32) -> u32
     x & OTHERS[round.k as usize]
 }
 
-// Each miner's word, moved so.
+// Of each miner's word the bits that the heads take the 'and' with, each moved down to its head.
 fn to_heads_each(round: Round, x: Shares) -> Shares
     ensures { result ≡ each (λ i. bit_and (at i x / 2 ^ (2 ^ round.k)) (word.heads 5 round.k)) }
 {
     x.map(|x| to_heads(round, x))
 }
 
-// Each miner's word at the other positions.
+// Each miner's word at the positions that are no heads; 0 at the heads.
 fn others_each(round: Round, x: Shares) -> Shares
     ensures { result ≡ each (λ i. bit_and (at i x) (word.others 5 round.k)) }
 {
@@ -74,19 +77,19 @@ fn others_each(round: Round, x: Shares) -> Shares
 }
 
 // Round k on every miner's masked shares, with the masks of the next round.
-fn folded(round: Round, p: Shares, q: Shares) -> Folding
-    ensures { result ≡ spec.folded (width 5) round.k p q }
+fn fold_round(round: Round, p: Shares, q: Shares) -> FoldState
+    ensures { result ≡ spec.fold_round (width 5) round.k p q }
 {
     let both = masked::and_shares(p, to_heads_each(round, p));
-    Folding {
+    FoldState {
         p: others_each(round, p).zip(both, masked::xor),
         q,
     }
 }
 
 // Shares of p, from the shares d of u - v: they give all ones exactly where d gives 0.
-fn start(d: Shares, r2: u32, r3: u32) -> Shares
-    ensures { result ≡ spec.start (modulus 5) d r2 r3 }
+fn first_shares(d: Shares, r2: u32, r3: u32) -> Shares
+    ensures { result ≡ spec.first_shares (modulus 5) d r2 r3 }
 {
     Shares::from([
         0xffff_ffff,
@@ -97,121 +100,125 @@ fn start(d: Shares, r2: u32, r3: u32) -> Shares
 
 // The comparison of d, the difference of the operands, with 0, with the masks of the first round sent on.
 #[tactic(auto, unfolding(crate::specs::Equal::compare))]
-fn compare(d: Shares, words: &[u32; 1], q: Shares, lists: &mut Lists) -> Folding
-    requires { Room 11 12 12 (lists_of lists.old) }
-    ensures same { Same lists.old lists.new }
-    ensures room { Room 11 12 12 (lists_of lists.new) }
-    ensures compared { (x : Operands) → d ≡ difference (modulus 5) x → let w = tapes [] words.now [] [] in (result.p ≡ (spec.compare 5).result x w) × (result.q ≡ q) × (lists_of lists.new ≡ fronts (lists_of lists.old) ((spec.compare 5).received x w followed_by to_next q)) }
+fn compare(
+    d: Shares,
+    words: &[u32; 1],
+    q: Shares,
+    one: &mut [u32],
+    two: &mut [u32],
+    three: &mut [u32],
+) -> FoldState
+    requires { HaveRoom 11 12 12 (lists one.old two.old three.old []) }
+    ensures held { (x : Operands) → d ≡ difference (modulus 5) x
+        → result ≡ private.state_before_rounds 5 x (tape_of_one words.now) q }
+    ensures sent { (x : Operands) → d ≡ difference (modulus 5) x
+        → lists one.new two.new three.new []
+        ≡ with_fronts (lists one.old two.old three.old []) (private.sent_before_rounds 5 x (tape_of_one words.now) q) }
 {
     let [r2] = *words;
     let r3 = ring::sub(d.one, r2);
-    list::put(lists.one, 0, &[q.three]);
-    list::put(lists.two, 0, &[r2, q.one]);
-    list::put(lists.three, 0, &[r3, q.two]);
-    Folding {
-        p: start(d, r2, r3),
+    list::put(one, 0, &[q.three]);
+    list::put(two, 0, &[r2, q.one]);
+    list::put(three, 0, &[r3, q.two]);
+    FoldState {
+        p: first_shares(d, r2, r3),
         q,
     }
 }
 
 // Round k: the masked shares and the masks of the next round sent on, and what the miners then hold.
-fn round(round: Round, held: Folding, q: Shares, lists: &mut Lists) -> Folding
-    requires { Room 11 12 12 (lists_of lists.old) }
-    ensures same { Same lists.old lists.new }
-    ensures room { Room 11 12 12 (lists_of lists.new) }
-    ensures folded { let p = masked held.p held.q in let w = to_next p followed_by to_next q in (result ≡ spec.folded (width 5) round.k p q) × (lists_of lists.new ≡ puts (let n = 2 * round.k in received (1 + n) (2 + n) (2 + n) 0) (lists_of lists.old) w) }
-{
-    let p = masked::masked(held.p, held.q);
-    let sent = 2 * round.k as usize;
-    lists.pass(1 + sent, 2 + sent, &[p, q]);
-    folded(round, p, q)
-}
-
-// The comparison of d and the folds, on the words drawn: one of miner 1, then a mask of each miner for the comparison and for each fold.
-#[inline(always)]
-fn folds(d: Shares, words: Tapes, lists: &mut Lists) -> Shares
-    requires { Block 7 6 6 (tapes_of words) × Room 11 12 12 (lists_of lists.old) }
-    ensures same { Same lists.old lists.new }
-    ensures done { (x : Operands) → d ≡ difference (modulus 5) x → let f = spec.folds 5 5 in let w = tapes_of words.entry in (result ≡ (f.result x w).p) × (lists_of lists.new ≡ fronts (lists_of lists.old) (f.received x w)) }
-{
-    let held = compare(d, &[words.one[0]], words.at(1, 0), lists);
-    let held = round(Round { k: 0 }, held, words.at(1, 1), lists);
-    let held = round(Round { k: 1 }, held, words.at(1, 2), lists);
-    let held = round(Round { k: 2 }, held, words.at(1, 3), lists);
-    let held = round(Round { k: 3 }, held, words.at(1, 4), lists);
-    let held = round(Round { k: 4 }, held, words.at(1, 5), lists);
-    held.p
-}
-
-// The same on lists that are lent one by one, as `on_words` has them.
-#[inline(always)]
-fn folds_on(d: Shares, words: Tapes, one: &mut [u32], two: &mut [u32], three: &mut [u32]) -> Shares
-    requires { Block 7 6 6 (tapes_of words) × Room 11 12 12 (lists one.old two.old three.old []) }
-    ensures { (x : Operands) → d ≡ difference (modulus 5) x → let f = spec.folds 5 5 in let w = tapes_of words.entry in (result ≡ (f.result x w).p) × (lists one.new two.new three.new [] ≡ fronts (lists one.old two.old three.old []) (f.received x w)) }
-{
-    let mut lists = Lists {
-        one,
-        two,
-        three,
-        controller: &mut [],
-    };
-    folds(d, words, &mut lists)
-}
-
-// 1 if d, the difference of the operands, is 0, else 0; on the words drawn, with room for just the words received. (A call of its own, as
-// that of Below.)
-#[inline(never)]
-fn on_words(
-    d: Shares,
-    tape1: &[u32; 10],
-    tape2: &[u32; 6],
-    tape3: &[u32; 6],
-    one: &mut [u32; 11],
-    two: &mut [u32; 15],
-    three: &mut [u32; 15],
-) -> Shares
-    ensures { (x : Operands) → d ≡ difference (modulus 5) x → let w = tapes [] tape1.now tape2.now tape3.now in (result ≡ (spec.equal 5).result x w) × (lists one.new two.new three.new [] ≡ (spec.equal 5).received x w) }
-{
-    let words = Tapes {
-        provider: &[],
-        one: &tape1[..7],
-        two: tape2,
-        three: tape3,
-    };
-    let word = folds_on(d, words, one, two, three);
-    let bit_words = [tape1[7], tape1[8], tape1[9]];
-    bit::convert(word, 0, &bit_words, &mut two[12..], &mut three[12..])
-}
-
-// Equal, on lists that are lent one by one, as Bits.
-#[inline(always)]
-fn equal_on(
-    u: Shares,
-    v: Shares,
-    place: Place,
-    tapes: Tapes,
+fn round(
+    round: Round,
+    held: FoldState,
+    q: Shares,
     one: &mut [u32],
     two: &mut [u32],
     three: &mut [u32],
-) -> Result<Done, Shortage>
-    ensures { delivered (outcome place result) (lists one.new two.new three.new []) ≡ delivery place (perform (spec.equal 5) (operands u v) place (tapes_of tapes.entry)) (lists one.old two.old three.old []) }
+) -> FoldState
+    requires { HaveRoom 11 12 12 (lists one.old two.old three.old []) }
+    ensures held { result ≡ spec.after_round (width 5) round.k held q }
+    ensures sent { lists one.new two.new three.new []
+        ≡ with_words_at (private.received_before round.k) (lists one.old two.old three.old [])
+        (spec.sent_in_round held q) }
 {
-    let Some(((tape1, tape2, tape3), next)) = place.draw_block::<10, 6>(&tapes) else {
-        return Err(Shortage::TapeSpent);
-    };
-    if !list::have_room(one, two, three, 11, 15, 15) {
-        return Err(Shortage::ListFull);
-    }
-    let d = local::difference(u, v);
-    // Just so many words of each, which `have_room` has shown to be there.
-    let (one, two, three) = (list::front(one), list::front(two), list::front(three));
-    Ok(Done {
-        shares: on_words(d, tape1, tape2, tape3, one, two, three),
-        place: next,
-    })
+    let p = masked::masked_shares(held.p, held.q);
+    let sent = 2 * round.k as usize;
+    list::pass(one, two, three, 1 + sent, 2 + sent, &[p, q]);
+    fold_round(round, p, q)
 }
 
-// 1 if u and v are equal, else 0.
+// The word that is all ones where d is 0, folded to its lowest bit, on the words drawn: one of miner 1, then a mask of
+// each miner for the comparison and for each fold.
+#[inline(always)]
+fn folds(d: Shares, words: Tapes, one: &mut [u32], two: &mut [u32], three: &mut [u32]) -> Shares
+    requires block { Block 7 6 6 (tapes_of words) }
+    requires room { HaveRoom 11 12 12 (lists one.old two.old three.old []) }
+    ensures shares { (x : Operands) → d ≡ difference (modulus 5) x
+        → result ≡ ((spec.folds 5 5).result x (tapes_of words.entry)).p }
+    ensures sent { (x : Operands) → d ≡ difference (modulus 5) x
+        → lists one.new two.new three.new []
+        ≡ with_fronts (lists one.old two.old three.old []) ((spec.folds 5 5).received x (tapes_of words.entry)) }
+{
+    let held = compare(d, &[words.one[0]], words.at(1, 0), one, two, three);
+    let held = round(Round { k: 0 }, held, words.at(1, 1), one, two, three);
+    let held = round(Round { k: 1 }, held, words.at(1, 2), one, two, three);
+    let held = round(Round { k: 2 }, held, words.at(1, 3), one, two, three);
+    let held = round(Round { k: 3 }, held, words.at(1, 4), one, two, three);
+    let held = round(Round { k: 4 }, held, words.at(1, 5), one, two, three);
+    held.p
+}
+
+// Equal, as a protocol of fixed lengths, on the difference of the operands alone: that is half as many words.
+#[derive(Clone, Copy)]
+struct ZeroTest {
+    u: Shares,
+    v: Shares,
+}
+
+impl FixedLengths<10, 6, 11, 15> for ZeroTest {
+    ghost Operands = { Operands };
+
+    ghost operands = { λ s. operands s.u s.v };
+
+    ghost protocol = { spec.equal 5 };
+
+    ghost input_of = { difference (modulus 5) };
+
+    #[inline(always)]
+    fn input(&self) -> Shares {
+        local::difference(self.u, self.v)
+    }
+
+    #[inline(never)]
+    fn compute(
+        d: Shares,
+        tape1: &[u32; 10],
+        tape2: &[u32; 6],
+        tape3: &[u32; 6],
+        one: &mut [u32; 11],
+        two: &mut [u32; 15],
+        three: &mut [u32; 15],
+    ) -> Shares {
+        let words = Tapes {
+            provider: &[],
+            one: &tape1[..7],
+            two: tape2,
+            three: tape3,
+        };
+        let word = folds(d, words, one, two, three);
+        let bit_words = [tape1[7], tape1[8], tape1[9]];
+        bit::convert(word, 0, &bit_words, &mut two[12..], &mut three[12..])
+    }
+}
+
+/// Shares of 1 if `u` and `v` are shares of the same word, else of 0.
+///
+/// Draws 10 words of miner 1's tape and 6 of each other miner's.
+/// Sends 11 words to miner 1 and 15 to each other miner.
+///
+/// # Errors
+/// `TapeSpent` where a tape has fewer words left at `place`, `ListFull` where a list has less room. Then nothing is
+/// drawn or written.
 #[inline(always)]
 pub fn equal(
     u: Shares,
@@ -220,8 +227,9 @@ pub fn equal(
     tapes: &Tapes,
     lists: &mut Lists,
 ) -> Result<Done, Shortage>
-    ensures same { Same lists.old lists.new }
-    ensures done { delivered (outcome place result) (lists_of lists.new) ≡ delivery place (perform (spec.equal 5) (operands u v) place (tapes_of tapes.now)) (lists_of lists.old) }
+    ensures same { SameLists lists.old lists.new }
+    ensures done { delivery_of (outcome place result) (lists_of lists.new)
+        ≡ delivery place (perform (spec.equal 5) (operands u v) place (tapes_of tapes.now)) (lists_of lists.old) }
 {
-    equal_on(u, v, place, *tapes, lists.one, lists.two, lists.three)
+    ZeroTest { u, v }.deliver(place, tapes, lists)
 }

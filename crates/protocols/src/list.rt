@@ -1,16 +1,16 @@
-// Received words, put into lent lists.
+//! Received words, put into lists that are lent one by one.
 ghost use Rattle.std.specs.Prelude.{◌≡◌, ◌+◌, ◌≤◌, length, take, []};
 ghost use Rattle.std.specs.Borrow.{sem};
 ghost use Rattle.std.proofs.lemmas.List.Edits.{sets};
-ghost use Rattle.protocols.specs.Counts.{received};
+ghost use Rattle.protocols.specs.Counts.{received_counts};
 ghost use Rattle.protocols.specs.Place.{lists};
-ghost use Rattle.protocols.specs.Outcome.{puts, holds};
-ghost use Rattle.protocols.specs.Lent.{lists_of, Same, Room, LendsFront, to_next_in_order};
+ghost use Rattle.protocols.specs.Outcome.{have_room};
+ghost use Rattle.protocols.specs.Private.Lending.{HaveRoom, LendsFront, to_next_in_order, with_words_at};
 
-use super::lent::Lists;
 use super::shares::Shares;
 
-// Puts words at a place of a list. (Word by word: `copy_from_slice` compiles to a test of whether the two overlap first.)
+// Puts words at a place of a list. It goes word by word, since `copy_from_slice` compiles to a test of whether the two
+// overlap.
 #[inline(always)]
 pub(crate) fn put(list: &mut [u32], at: usize, words: &[u32])
     requires { at + length words.now ≤ length list.old }
@@ -44,24 +44,30 @@ pub(crate) fn have_room(
     two: usize,
     three: usize,
 ) -> bool
-    ensures { result ≡ holds (lists list1.now list2.now list3.now []) (received one two three 0) }
+    ensures { result ≡ have_room (lists list1.now list2.now list3.now []) (received_counts one two three 0) }
 {
     (one <= list1.len()) & ((two <= list2.len()) & (three <= list3.len()))
 }
 
-impl Lists<'_> {
-    // Words of each miner to the next, in order: into list 1 from `first` on, into lists 2 and 3 from `at` on. (By index, since it is that
-    // of three lists.)
-    #[inline(always)]
-    pub(crate) fn pass(&mut self, first: usize, at: usize, words: &[Shares])
-        requires { let n = length words.now in Room (first + n) (at + n) (at + n) (lists_of self.old) }
-        ensures same { Same self.old self.new }
-        ensures passed { lists_of self.new ≡ puts (received first at at 0) (lists_of self.old) (to_next_in_order words.now) }
-    {
-        for (k, word) in words.iter().enumerate() {
-            self.one[first + k] = word.three;
-            self.two[at + k] = word.one;
-            self.three[at + k] = word.two;
-        }
+// Words of each miner to the next, in order: into list 1 from `first` on, into lists 2 and 3 from `at` on.
+#[inline(always)]
+pub(crate) fn pass(
+    list1: &mut [u32],
+    list2: &mut [u32],
+    list3: &mut [u32],
+    first: usize,
+    at: usize,
+    words: &[Shares],
+)
+    requires { let n = length words.now in
+        HaveRoom (first + n) (at + n) (at + n) (lists list1.old list2.old list3.old []) }
+    ensures { lists list1.new list2.new list3.new []
+        ≡ with_words_at (received_counts first at at 0) (lists list1.old list2.old list3.old [])
+        (to_next_in_order words.now) }
+{
+    for (k, word) in words.iter().enumerate() {
+        list1[first + k] = word.three;
+        list2[at + k] = word.one;
+        list3[at + k] = word.two;
     }
 }

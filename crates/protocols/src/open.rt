@@ -1,10 +1,10 @@
-// Open.
+//! Open: fresh shares for the controller, and the word that they add up to.
 ghost use Rattle.std.specs.Prelude.{◌≡◌};
 ghost use Rattle.protocols.specs.Word.{modulus};
 ghost use Rattle.protocols.specs.Shares.{sum_of};
 ghost use Rattle.protocols.specs.Protocol.{perform};
-ghost use Rattle.protocols.specs.Outcome.{outcome, delivered, delivery};
-ghost use Rattle.protocols.specs.Lent.{tapes_of, lists_of, Same};
+ghost use Rattle.protocols.specs.Outcome.{outcome, delivery_of, delivery};
+ghost use Rattle.protocols.specs.Lent.{tapes_of, lists_of, SameLists};
 ghost use Rattle.protocols.specs.Open.{opening};
 
 use super::lent::{Lists, Tapes};
@@ -13,12 +13,20 @@ use super::place::Place;
 use super::shares::Shares;
 use super::{list, reshare, ring};
 
-// Fresh shares of a value go to the controller; the caller keeps the old ones.
+/// Fresh shares of the value of `s`, as the controller receives them; whoever calls keeps `s`.
+///
+/// Draws 1 word of each miner's tape.
+/// Sends 1 word to each miner, and the three shares, in the miners' order, to the controller.
+///
+/// # Errors
+/// `TapeSpent` where a tape has fewer words left at `place`, `ListFull` where a list has less room. Then nothing is
+/// drawn or written.
 #[tactic(auto, using(crate::proofs::Laws::Lent::opening_performs), unfolding(crate::specs::Open::opening))]
 #[inline(always)]
 pub fn open(s: Shares, place: Place, tapes: &Tapes, lists: &mut Lists) -> Result<Done, Shortage>
-    ensures same { Same lists.old lists.new }
-    ensures done { delivered (outcome place result) (lists_of lists.new) ≡ delivery place (perform (opening (modulus 5)) s place (tapes_of tapes.now)) (lists_of lists.old) }
+    ensures same { SameLists lists.old lists.new }
+    ensures done { delivery_of (outcome place result) (lists_of lists.new)
+        ≡ delivery place (perform (opening (modulus 5)) s place (tapes_of tapes.now)) (lists_of lists.old) }
 {
     let Some((r, next)) = place.draw_each(tapes) else {
         return Err(Shortage::TapeSpent);
@@ -26,16 +34,16 @@ pub fn open(s: Shares, place: Place, tapes: &Tapes, lists: &mut Lists) -> Result
     if !lists.have_room(1, 1, 1, 3) {
         return Err(Shortage::ListFull);
     }
-    let fresh = reshare::fresh(s, r);
+    let fresh = reshare::fresh_shares(s, r);
     list::put(lists.controller, 0, &[fresh.one, fresh.two, fresh.three]);
-    lists.pass(0, 0, &[r]);
+    lists.pass(&[r]);
     Ok(Done {
         shares: fresh,
         place: next,
     })
 }
 
-// The word that three shares add up to.
+/// The word that three shares add up to, modulo 2^32.
 #[tactic(auto, unfolding(crate::specs::Shares::sum_of))]
 pub fn total(s: Shares) -> u32
     ensures { result ≡ sum_of (modulus 5) s }

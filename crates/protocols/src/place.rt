@@ -1,54 +1,69 @@
-// The place record, and draws from a tape.
-ghost use Rattle.std.specs.Prelude.{◌≡◌, ◌<◌, ◌≤◌, Some, length, take, drop};
-ghost use Rattle.std.specs.Option.{MatchOption};
+//! The place record, and draws from a tape.
+ghost use Rattle.std.specs.Prelude.{◌≡◌, ◌<◌, ◌↔◌, Some, IsNone, IfSome, length, take, drop};
 ghost use Rattle.protocols.specs.Place.{count, with_count, draw_answer, draw, place_of};
-ghost use Rattle.protocols.specs.Counts.{with_handles, with_more};
-ghost use Rattle.protocols.specs.Lent.{drawn};
+ghost use Rattle.protocols.specs.Counts.{with_more};
+ghost use Rattle.protocols.specs.Lent.{lent_words};
 ghost use Rattle.protocols.specs.Printed as printed;
 
 use std::fmt;
 
-// Who draws: the provider, or a miner. (The controller receives and draws nothing: so this is not who receives.)
-#[derive(Clone, Copy, PartialEq, Eq)]
+/// Who has a tape: the provider and the miners. The controller draws nothing, so it is none of these.
+#[derive(Clone, Copy, Debug, PartialEq, Eq)]
 pub enum Party {
+    /// Who shares the inputs out.
     Provider,
+    /// Miner 1.
     One,
+    /// Miner 2.
     Two,
+    /// Miner 3.
     Three,
 }
 
-// Words drawn from each tape.
+/// How many words of each tape are drawn.
 #[repr(C)]
-#[derive(Clone, Copy, Default)]
+#[derive(Clone, Copy, Debug, Default, PartialEq, Eq)]
 pub struct Drawn {
+    /// Words of the provider's tape.
     pub provider: usize,
+    /// Words of miner 1's tape.
     pub one: usize,
+    /// Words of miner 2's tape.
     pub two: usize,
+    /// Words of miner 3's tape.
     pub three: usize,
 }
 
-// Words in each received list.
+/// How many words each list of received words holds.
 #[repr(C)]
-#[derive(Clone, Copy, Default)]
+#[derive(Clone, Copy, Debug, Default, PartialEq, Eq)]
 pub struct Received {
+    /// Words that miner 1 has received.
     pub one: usize,
+    /// Words that miner 2 has received.
     pub two: usize,
+    /// Words that miner 3 has received.
     pub three: usize,
+    /// Words that the controller has received.
     pub controller: usize,
 }
 
-// The place record: filled handles, inputs used, words drawn, words received.
+/// The place record: how far each lent list is filled or used. All counts are 0 before the first command.
 #[repr(C)]
-#[derive(Clone, Copy, Default)]
+#[derive(Clone, Copy, Debug, Default, PartialEq, Eq)]
 pub struct Place {
+    /// Filled handles, which are entries of each share table and of the kind list.
     pub handles: usize,
+    /// Inputs used, in words.
     pub inputs: usize,
+    /// Words drawn from each tape.
     pub drawn: Drawn,
+    /// Words in each received list.
     pub received: Received,
 }
 
 impl Drawn {
-    // The count of one tape.
+    /// How many words of the party's tape are drawn.
     pub fn of(self, party: Party) -> usize
         ensures { result ≡ count party self }
     {
@@ -60,7 +75,7 @@ impl Drawn {
         }
     }
 
-    // With a tape's count set.
+    // The same counts but for one tape's, which is set.
     fn with(mut self, party: Party, words: usize) -> Drawn
         ensures { result ≡ with_count party words self }
     {
@@ -74,10 +89,12 @@ impl Drawn {
     }
 }
 
-// The next N words of a tape after so many, if it has them. (Zero words can be drawn at any place, even beyond the tape.)
+// The next N words of a tape of which so many are used, if it has them. Zero words are there at every place, even
+// beyond the tape.
 #[inline(always)]
 fn next_words<const N: usize>(tape: &[u32], used: usize) -> Option<&[u32; N]>
-    ensures { MatchOption result (length (drop used tape.now) < N) (λ w. (N ≤ length (drop used tape.now)) × (w.now ≡ take N (drop used tape.now))) }
+    ensures spent { IsNone result ↔ (length (drop used tape.now) < N) }
+    ensures words { IfSome result (λ w. w.now ≡ take N (drop used tape.now)) }
 {
     if tape.len().saturating_sub(used) < N {
         return None;
@@ -89,8 +106,9 @@ fn next_words<const N: usize>(tape: &[u32], used: usize) -> Option<&[u32; N]>
 }
 
 impl Place {
-    // The next N words of a party's tape with the moved place, or nothing where the tape is spent. (Document 01 has each draw taken apart by
-    // `let .. else`, and the spent case return early: so no `?` here and in what draws.)
+    /// Draws the next N words of a party's tape: they come with the place record that counts them. `None` where fewer
+    /// than N words are left.
+    // Every draw of a protocol is taken apart by `let .. else` and returns early where the tape is spent.
     #[tactic(auto, using(crate::proofs::Laws::Draws::draw_some, crate::proofs::Laws::Draws::draw_none))]
     #[inline(always)]
     pub fn draw<'a, const N: usize>(
@@ -98,7 +116,7 @@ impl Place {
         party: Party,
         tape: &'a [u32],
     ) -> Option<(&'a [u32; N], Place)>
-        ensures { draw_answer self (drawn result) ≡ draw N party tape.now self }
+        ensures { draw_answer self (lent_words result) ≡ draw N party tape.now self }
     {
         let at = self.drawn.of(party);
         let Some(words) = next_words::<N>(tape, at) else {
@@ -108,19 +126,8 @@ impl Place {
         Some((words, Place { drawn, ..self }))
     }
 
-    // With more handles counted. (Here and below modulo 2^64, so that every record is taken: no count that fits its
-    // list gets there.)
-    #[inline(always)]
-    pub fn with_handles(self, handles: usize) -> Place
-        ensures { result ≡ with_handles handles self }
-    {
-        Place {
-            handles: self.handles.wrapping_add(handles),
-            ..self
-        }
-    }
-
-    // With more handles, inputs and received words counted.
+    /// The record with so many more handles, inputs and received words. Counts wrap at 2^64, which none reaches that is
+    /// within its list.
     #[inline(always)]
     pub fn with_more(self, handles: usize, inputs: usize, received: Received) -> Place
         ensures { result ≡ with_more handles inputs received self }
@@ -145,7 +152,8 @@ impl Place {
     }
 }
 
-// The counts in the record's order.
+/// From the ten counts: handles, inputs, words drawn from the tapes of the provider and miners 1 to 3, words received
+/// by miners 1 to 3 and the controller.
 impl From<[usize; 10]> for Place {
     ghost from_gives = { λ counts p. p ≡ place_of counts };
 
@@ -169,8 +177,9 @@ impl From<[usize; 10]> for Place {
     }
 }
 
+/// Writes the four counts, a space between two: the provider's, miner 1's, miner 2's, miner 3's.
 impl fmt::Display for Drawn {
-    ghost output = { λ n. Some (printed.drawn n) };
+    ghost output = { λ n. Some (printed.drawn_text n) };
 
     fn fmt<W: fmt::Write>(&self, f: &mut fmt::Formatter<W>) -> fmt::Result {
         let Drawn {
@@ -183,8 +192,9 @@ impl fmt::Display for Drawn {
     }
 }
 
+/// Writes the four counts, a space between two: miner 1's, miner 2's, miner 3's, the controller's.
 impl fmt::Display for Received {
-    ghost output = { λ n. Some (printed.received n) };
+    ghost output = { λ n. Some (printed.received_text n) };
 
     fn fmt<W: fmt::Write>(&self, f: &mut fmt::Formatter<W>) -> fmt::Result {
         let Received {
@@ -197,8 +207,9 @@ impl fmt::Display for Received {
     }
 }
 
+/// Writes the ten counts, a space between two, in the order in which a record is made from them.
 impl fmt::Display for Place {
-    ghost output = { λ p. Some (printed.place p) };
+    ghost output = { λ p. Some (printed.place_text p) };
 
     fn fmt<W: fmt::Write>(&self, f: &mut fmt::Formatter<W>) -> fmt::Result {
         let Place {

@@ -1,6 +1,6 @@
-// What this crate promises of the protocols as a whole: each claim is the contract of a function, so that it is proved
-// wherever this crate is. There is nothing to run in them. (The statements, part by part, are in specs/Claims.antt,
-// specs/Apart.antt and specs/Worked.antt.)
+//! What this crate promises of the protocols as a whole.
+//! Each claim is the contract of a function that does nothing, so that it is proved wherever this crate is. The
+//! statements, part by part, are in specs/Claims.antt, specs/Apart.antt and specs/Worked.antt.
 ghost use Rattle.std.specs.Prelude.{◌≡◌, ℕ, ◌<◌, cond, List};
 ghost use Rattle.protocols.specs.declared.place.Party.{Party};
 ghost use Rattle.protocols.specs.declared.place.Party.TheVariants.{Provider};
@@ -11,109 +11,111 @@ ghost use Rattle.protocols.specs.Shares.{Operands, at};
 ghost use Rattle.protocols.specs.Place.{Tapes, Lists};
 ghost use Rattle.protocols.specs.Protocol.{Protocol};
 ghost use Rattle.protocols.specs.Blind.{Observer};
-ghost use Rattle.protocols.specs.Claims.{RingCombines, BitsCombine, Table, TableAt32, BlindProtocols, WordForms, SourceIs, DrawIs, OnTapes, Delivers, Transcripts};
+ghost use Rattle.protocols.specs.Claims.{RingCombines, BitsCombine, Rows, RowsAt32, BlindProtocols, WordForms};
+ghost use Rattle.protocols.specs.Claims.{SourceIs, DrawIs, OnTapes, Delivers, Transcripts};
 ghost use Rattle.protocols.specs.Parties.{Process, PlayedApart};
 ghost use Rattle.protocols.specs.Own.{share, pair, input};
-ghost use Rattle.protocols.specs.Apart.{ProtocolsApart, ByItself, SameView, MixedRuns, NoMagic};
+ghost use Rattle.protocols.specs.Apart.{ProtocolsApart, ByItself, SameProtocolView, MixedProtocolRuns, NoMagic};
 ghost use Rattle.protocols.specs.Apart.{mixed_shares, mixed_operands};
 ghost use Rattle.protocols.specs.Worked.{Worked};
 
-// Whatever is drawn, the new shares of every ring protocol add up to the right word.
+/// Whatever is drawn, the new shares of every ring protocol add up to the right word.
 pub fn ring_combines()
     ensures { (m : ℕ) → 0 < m → RingCombines m }
 {}
 
-// Whatever is drawn, the new shares of Bit, Bits, Equal and Below give the right word.
+/// Whatever is drawn, the new shares of Bit, Bits, Equal and Below give the right word.
 pub fn bits_combine()
     ensures { (n : ℕ) → BitsCombine n }
 {}
 
-// Every protocol draws and delivers as many words as its row says, and makes words of words.
-pub fn table()
-    ensures { (n : ℕ) → Table n }
+/// Every protocol draws and delivers as many words as its row says, and makes words of words.
+pub fn rows()
+    ensures { (n : ℕ) → Rows n }
 {}
 
-// The rows that depend on the width, as numbers at 32 bits.
-pub fn table_at_32()
-    ensures { TableAt32 }
+/// The rows that depend on the width, as numbers at 32 bits.
+pub fn rows_at_32()
+    ensures { RowsAt32 }
 {}
 
-// To a miner, to the controller and to a miner that is controller too, no protocol tells more of its operands than it
-// may.
+/// To a miner, to the controller and to a miner that is controller too, no protocol tells more of its operands than it
+/// may.
 pub fn blind_protocols()
     ensures { (n : ℕ) (o : Observer) → BlindProtocols n o }
 {}
 
-// The code's rounds on whole words are the rounds position by position.
+/// The code's rounds on whole words are the rounds position by position.
 pub fn word_forms()
     ensures { (n k : ℕ) → k < n → WordForms n k }
 {}
 
-// A position of a carry round takes from the highest lower position that has its block's carry.
+/// A position of a carry round takes from the highest lower position that has its block's carry.
 pub fn source_is()
     ensures { (k j : ℕ) → bit_at j k ≡ 1 → SourceIs k j }
 {}
 
-// A draw is 0, the words and the moved place, or 12 and the place as it was, where the tape has too few words left.
+/// A draw is 0, the words and the moved place, or 12 and the place as it was, where the tape has too few words left.
 pub fn draw_is()
     ensures { (k : ℕ) (i : Party) (l : List ℕ) (p : Place) → DrawIs k i l p }
 {}
 
-// A protocol is spent exactly where a tape has too few words left; of an input, of a value's shares and of two values'
-// shares.
+/// A protocol is spent exactly where a tape has too few words left; of an input, of a value's shares and of two values'
+/// shares.
 pub fn on_tapes()
     ensures of_input { (f : Protocol ℕ Shares) (s : ℕ) (p : Place) (t : Tapes) → OnTapes f s p t }
     ensures of_shares { (f : Protocol Shares Shares) (s : Shares) (p : Place) (t : Tapes) → OnTapes f s p t }
     ensures of_operands { (f : Protocol Operands Shares) (s : Operands) (p : Place) (t : Tapes) → OnTapes f s p t }
 {}
 
-// A protocol's words are delivered whole, or nothing is written.
+/// A protocol's words are delivered whole, or nothing is written.
 pub fn delivers()
     ensures { (p : Place) (l : Lists) (s : Shares) (w : Lists) (q : Place) → Delivers p l s w q }
 {}
 
-// The words that each party receives, written out in the order in which they come.
+/// The words that each party receives, written out in the order in which they come.
 pub fn transcripts()
     ensures { (m : ℕ) → Transcripts m }
 {}
 
-// Every protocol is played by a provider and three miners, each on what it alone has.
+/// Every protocol is played by a provider and three miners, each on what it alone has.
 pub fn protocols_apart()
     ensures { (n : ℕ) → ProtocolsApart n }
 {}
 
-// What connected processes come to is settled by what each does by itself, on its received words; of processes that end
-// with a word, and with a table.
+/// What connected processes come to is settled by what each does by itself, on its received words; of processes that
+/// end with a word, and with a table.
 pub fn by_itself()
     ensures of_words { (r : ℕ) (p : Party → Process r ℕ) → ByItself ℕ r p }
     ensures of_tables { (r : ℕ) (p : Party → Process r (List ℕ)) → ByItself (List ℕ) r p }
 {}
 
-// What a miner has after a protocol that is played apart is settled by what it had, drew and received; of an input, of
-// a value's shares and of two values' shares.
-pub fn same_view()
-    ensures of_input { (f : Protocol ℕ Shares) → PlayedApart f input share → SameView f (λ i v v'. Unit {0}) }
+/// What a miner has after a protocol that is played apart is settled by what it had, drew and received; of an input, of
+/// a value's shares and of two values' shares.
+pub fn same_protocol_view()
+    ensures of_input { (f : Protocol ℕ Shares) → PlayedApart f input share → SameProtocolView f (λ i v v'. Unit {0}) }
     ensures of_shares { (f : Protocol Shares Shares) → PlayedApart f share share
-        → SameView f (λ i s s'. at i s ≡ at i s') }
+        → SameProtocolView f (λ i s s'. at i s ≡ at i s') }
     ensures of_operands { (f : Protocol Operands Shares) → PlayedApart f pair share
-        → SameView f (λ i x x'. (at i x.u ≡ at i x'.u) × (at i x.v ≡ at i x'.v)) }
+        → SameProtocolView f (λ i x x'. (at i x.u ≡ at i x'.u) × (at i x.v ≡ at i x'.v)) }
 {}
 
-// Of a protocol that is played apart: where two runs deliver the same words, so does each run mixed of the two; of an
-// input, of a value's shares and of two values' shares.
-pub fn mixed_runs()
+/// Of a protocol that is played apart: where two runs deliver the same words, so does each run mixed of the two; of an
+/// input, of a value's shares and of two values' shares.
+pub fn mixed_protocol_runs()
     ensures of_input { (f : Protocol ℕ Shares) → PlayedApart f input share
-        → MixedRuns f (λ first v v'. cond (first Provider) v v') }
-    ensures of_shares { (f : Protocol Shares Shares) → PlayedApart f share share → MixedRuns f mixed_shares }
-    ensures of_operands { (f : Protocol Operands Shares) → PlayedApart f pair share → MixedRuns f mixed_operands }
+        → MixedProtocolRuns f (λ first v v'. cond (first Provider) v v') }
+    ensures of_shares { (f : Protocol Shares Shares) → PlayedApart f share share → MixedProtocolRuns f mixed_shares }
+    ensures of_operands { (f : Protocol Operands Shares) → PlayedApart f pair share
+        → MixedProtocolRuns f mixed_operands }
 {}
 
-// A miner that has another's share with no word sent is not played apart.
+/// A miner that has another's share with no word sent is not played apart.
 pub fn no_magic()
     ensures { NoMagic }
 {}
 
-// The cases that were reckoned by hand.
+/// The cases that were reckoned by hand.
 pub fn worked()
     ensures { Worked }
 {}

@@ -1,9 +1,9 @@
-// Reshare.
+//! Reshare: other shares of the same value.
 ghost use Rattle.std.specs.Prelude.{◌≡◌};
 ghost use Rattle.protocols.specs.Word.{modulus};
 ghost use Rattle.protocols.specs.Protocol.{perform};
-ghost use Rattle.protocols.specs.Outcome.{outcome, delivered, delivery};
-ghost use Rattle.protocols.specs.Lent.{tapes_of, lists_of, Same};
+ghost use Rattle.protocols.specs.Outcome.{outcome, delivery_of, delivery};
+ghost use Rattle.protocols.specs.Lent.{tapes_of, lists_of, SameLists};
 ghost use Rattle.protocols.specs.Reshare as spec;
 
 use super::lent::{Lists, Tapes};
@@ -12,19 +12,28 @@ use super::place::Place;
 use super::ring;
 use super::shares::Shares;
 
-// Miner i adds its own mask and takes off the previous miner's.
-pub fn fresh(s: Shares, r: Shares) -> Shares
-    ensures { result ≡ spec.fresh (modulus 5) s r }
+/// Fresh shares of the value of `s` modulo 2^32: each miner adds its own mask of `r` and takes off the previous
+/// miner's.
+pub fn fresh_shares(s: Shares, r: Shares) -> Shares
+    ensures { result ≡ spec.fresh_shares (modulus 5) s r }
 {
     s.zip(r, ring::add).zip(r.previous(), ring::sub)
 }
 
-// Other shares of the same value.
+/// Fresh shares of the value of `s`.
+///
+/// Draws 1 word of each miner's tape.
+/// Sends 1 word to each miner.
+///
+/// # Errors
+/// `TapeSpent` where a tape has fewer words left at `place`, `ListFull` where a list has less room. Then nothing is
+/// drawn or written.
 #[tactic(auto, using(crate::proofs::Laws::Lent::reshare_performs), unfolding(crate::specs::Reshare::reshare))]
 #[inline(always)]
 pub fn reshare(s: Shares, place: Place, tapes: &Tapes, lists: &mut Lists) -> Result<Done, Shortage>
-    ensures same { Same lists.old lists.new }
-    ensures done { delivered (outcome place result) (lists_of lists.new) ≡ delivery place (perform (spec.reshare (modulus 5)) s place (tapes_of tapes.now)) (lists_of lists.old) }
+    ensures same { SameLists lists.old lists.new }
+    ensures done { delivery_of (outcome place result) (lists_of lists.new)
+        ≡ delivery place (perform (spec.reshare (modulus 5)) s place (tapes_of tapes.now)) (lists_of lists.old) }
 {
     let Some((r, next)) = place.draw_each(tapes) else {
         return Err(Shortage::TapeSpent);
@@ -32,9 +41,9 @@ pub fn reshare(s: Shares, place: Place, tapes: &Tapes, lists: &mut Lists) -> Res
     if !lists.have_room(1, 1, 1, 0) {
         return Err(Shortage::ListFull);
     }
-    lists.pass(0, 0, &[r]);
+    lists.pass(&[r]);
     Ok(Done {
-        shares: fresh(s, r),
+        shares: fresh_shares(s, r),
         place: next,
     })
 }

@@ -1,7 +1,8 @@
-// Words modulo 2^32.
+//! The ring: sums, differences and products modulo 2^32.
 ghost use Rattle.std.specs.Prelude.{◌≡◌};
 ghost use Rattle.protocols.specs.Word as word;
 
+/// The sum modulo 2^32.
 #[tactic(auto, unfolding(crate::specs::Word::add))]
 pub fn add(a: u32, b: u32) -> u32
     ensures { result ≡ word.add (word.modulus 5) a b }
@@ -9,6 +10,7 @@ pub fn add(a: u32, b: u32) -> u32
     a.wrapping_add(b)
 }
 
+/// The difference modulo 2^32.
 #[tactic(auto, unfolding(crate::specs::Word::sub))]
 pub fn sub(a: u32, b: u32) -> u32
     ensures { result ≡ word.sub (word.modulus 5) a b }
@@ -16,7 +18,8 @@ pub fn sub(a: u32, b: u32) -> u32
     a.wrapping_sub(b)
 }
 
-// The product of two words has 64 bits; its low half is kept. (Document 01 asks for the product through u64: so no wrapping_mul.)
+/// The product modulo 2^32.
+// It is taken in 64 bits, which hold it whole, and the low half is kept.
 #[tactic(auto, unfolding(crate::specs::Word::mul))]
 pub fn mul(a: u32, b: u32) -> u32
     ensures { result ≡ word.mul (word.modulus 5) a b }

@@ -1,23 +1,29 @@
-// Three words, one for each miner.
+//! Three words, one for each miner.
 ghost use Rattle.std.specs.Prelude.{◌≡◌, Some};
 ghost use Rattle.protocols.specs.Shares.{at, each, prev, shares_of};
 ghost use Rattle.protocols.specs.Printed as printed;
 
 use std::fmt;
 
-#[derive(Clone, Copy, Default)]
+/// A word of each miner: its share of a value, or a word that it drew or was sent.
+#[derive(Clone, Copy, Debug, Default, PartialEq, Eq)]
 pub struct Shares {
+    /// Miner 1's word.
     pub one: u32,
+    /// Miner 2's word.
     pub two: u32,
+    /// Miner 3's word.
     pub three: u32,
 }
 
 impl Shares {
-    // Of each miner's word.
+    // What the function makes of each miner's word.
     #[inline(always)]
     pub(crate) fn map<F: Fn(u32) -> u32>(self, f: F) -> Shares
         requires { F.IsAlwaysCallable f }
-        ensures { F.post f self.one result.one × F.post f self.two result.two × F.post f self.three result.three }
+        ensures one { F.post f self.one result.one }
+        ensures two { F.post f self.two result.two }
+        ensures three { F.post f self.three result.three }
     {
         Shares {
             one: f(self.one),
@@ -26,11 +32,13 @@ impl Shares {
         }
     }
 
-    // Of each miner's two words.
+    // What the function makes of each miner's two words.
     #[inline(always)]
     pub(crate) fn zip<F: Fn(u32, u32) -> u32>(self, other: Shares, f: F) -> Shares
         requires { F.IsAlwaysCallable f }
-        ensures { F.post f self.one other.one result.one × F.post f self.two other.two result.two × F.post f self.three other.three result.three }
+        ensures one { F.post f self.one other.one result.one }
+        ensures two { F.post f self.two other.two result.two }
+        ensures three { F.post f self.three other.three result.three }
     {
         Shares {
             one: f(self.one, other.one),
@@ -39,7 +47,7 @@ impl Shares {
         }
     }
 
-    // Of each miner's two words and the previous miner's two.
+    // What the function makes of each miner's two words and the previous miner's two.
     #[inline(always)]
     pub(crate) fn zip_previous<F: Fn(u32, u32, u32, u32) -> u32>(
         self,
@@ -47,7 +55,9 @@ impl Shares {
         f: F,
     ) -> Shares
         requires { F.IsAlwaysCallable f }
-        ensures { F.post f self.one other.one self.three other.three result.one × F.post f self.two other.two self.one other.one result.two × F.post f self.three other.three self.two other.two result.three }
+        ensures one { F.post f self.one other.one self.three other.three result.one }
+        ensures two { F.post f self.two other.two self.one other.one result.two }
+        ensures three { F.post f self.three other.three self.two other.two result.three }
     {
         Shares {
             one: f(self.one, other.one, self.three, other.three),
@@ -56,7 +66,7 @@ impl Shares {
         }
     }
 
-    // The previous miner's word, at each miner.
+    // Each miner's word is the previous miner's: before miner 1 comes miner 3.
     #[inline(always)]
     pub(crate) fn previous(self) -> Shares
         ensures { result ≡ each (λ i. at (prev i) self) }
@@ -69,7 +79,7 @@ impl Shares {
     }
 }
 
-// Miner 1's word, miner 2's, miner 3's.
+/// From miner 1's word, miner 2's and miner 3's.
 impl From<[u32; 3]> for Shares {
     ghost from_gives = { λ words s. s ≡ shares_of words };
 
@@ -80,8 +90,9 @@ impl From<[u32; 3]> for Shares {
     }
 }
 
+/// Writes the three words in decimal, in the miners' order, a space between two.
 impl fmt::Display for Shares {
-    ghost output = { λ s. Some (printed.shares s) };
+    ghost output = { λ s. Some (printed.shares_text s) };
 
     fn fmt<W: fmt::Write>(&self, f: &mut fmt::Formatter<W>) -> fmt::Result {
         let Shares { one, two, three } = *self;

@@ -1,9 +1,9 @@
-// Store.
+//! Store: an input, shared out by the provider.
 ghost use Rattle.std.specs.Prelude.{◌≡◌};
 ghost use Rattle.protocols.specs.Word.{modulus};
 ghost use Rattle.protocols.specs.Protocol.{perform};
-ghost use Rattle.protocols.specs.Outcome.{outcome, delivered, delivery};
-ghost use Rattle.protocols.specs.Lent.{tapes_of, lists_of, Same};
+ghost use Rattle.protocols.specs.Outcome.{outcome, delivery_of, delivery};
+ghost use Rattle.protocols.specs.Lent.{tapes_of, lists_of, SameLists};
 ghost use Rattle.protocols.specs.Store as spec;
 
 use super::lent::{Lists, Tapes};
@@ -12,12 +12,20 @@ use super::place::{Party, Place};
 use super::ring;
 use super::shares::Shares;
 
-// Shares of an input, two of them drawn by the provider.
+/// Shares of the input `v`, two of them drawn by the provider.
+///
+/// Draws 2 words of the provider's tape.
+/// Sends its share to each miner.
+///
+/// # Errors
+/// `TapeSpent` where a tape has fewer words left at `place`, `ListFull` where a list has less room. Then nothing is
+/// drawn or written.
 #[tactic(auto, using(crate::proofs::Laws::Lent::store_performs), unfolding(crate::specs::Store::store))]
 #[inline(always)]
 pub fn store(v: u32, place: Place, tapes: &Tapes, lists: &mut Lists) -> Result<Done, Shortage>
-    ensures same { Same lists.old lists.new }
-    ensures done { delivered (outcome place result) (lists_of lists.new) ≡ delivery place (perform (spec.store (modulus 5)) v place (tapes_of tapes.now)) (lists_of lists.old) }
+    ensures same { SameLists lists.old lists.new }
+    ensures done { delivery_of (outcome place result) (lists_of lists.new)
+        ≡ delivery place (perform (spec.store (modulus 5)) v place (tapes_of tapes.now)) (lists_of lists.old) }
 {
     let Some((&[s1, s2], next)) = place.draw::<2>(Party::Provider, tapes.provider) else {
         return Err(Shortage::TapeSpent);
@@ -25,12 +33,12 @@ pub fn store(v: u32, place: Place, tapes: &Tapes, lists: &mut Lists) -> Result<D
     if !lists.have_room(1, 1, 1, 0) {
         return Err(Shortage::ListFull);
     }
-    let dealt = Shares::from([s1, s2, ring::sub(ring::sub(v, s1), s2)]);
-    lists.one[0] = dealt.one;
-    lists.two[0] = dealt.two;
-    lists.three[0] = dealt.three;
+    let shares = Shares::from([s1, s2, ring::sub(ring::sub(v, s1), s2)]);
+    lists.one[0] = shares.one;
+    lists.two[0] = shares.two;
+    lists.three[0] = shares.three;
     Ok(Done {
-        shares: dealt,
+        shares,
         place: next,
     })
 }

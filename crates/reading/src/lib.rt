@@ -1,4 +1,4 @@
-// An input, whole, into a lent buffer.
+//! An input, read whole into a lent buffer.
 #![tactic(auto)]
 
 ghost use Rattle.std.specs.Prelude.{◌≡◌, ℕ, ◌<◌, [], IfOk, OnErr, Ok, length, take};
@@ -8,9 +8,12 @@ ghost use Rattle.std.specs.Io.KnownBytes.{Consumes, IsAtEnd};
 use std::io;
 use std::io::Read;
 
-// Reads until the input ends or the buffer is full, and answers how many bytes stand at the buffer's start. A failed
-// read is told apart from the end, so that no part of an input is taken for the whole; the buffer then begins with what
-// was read before it, and what stands behind that is not told.
+/// Reads until the input ends or the buffer is full. The result is how many bytes stand at the buffer's start: all that
+/// there were, where the buffer is not full.
+///
+/// # Errors
+/// The error of a read that fails. The buffer then begins with the bytes that were read before it; what stands behind
+/// them is not known.
 #[tactic(auto, using(crate::proofs::Filled::consumes_filled))]
 pub fn read_whole<R: Read>(from: &mut R, buffer: &mut [u8]) -> io::Result<usize>
     ensures counted { ReadsAtMost result buffer.new }

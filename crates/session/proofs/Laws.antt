@@ -14,8 +14,8 @@ pub mod Text
 pub mod OpenLines
 pub mod RunLines
 pub mod Report
-pub mod EntryOne
-pub mod EntryTwo
+pub mod SessionRefusals
+pub mod SessionAgreement
 pub mod Apart
 pub mod Worked
 pub mod WorkedBlindness

@@ -1,18 +1,17 @@
--- The text that the program `pool` prints, in bytes. (01, 'The session sheet')
-use Rattle.std.specs.Prelude.{ℕ, zero, suc, ◌+◌, ◌-◌, ◌*◌, ◌/◌, ◌%◌, ◌≤◌, Bool, cond, ◌&&◌, List, [], ◌∷◌, ◌++◌, length, get_or, take, drop, nat_lt, nat_le, nat_eq}
-use Rattle.std.proofs.lemmas.List.Edits.{sets}
-use Rattle.protocols.specs.Word.{modulus}
+-- The text that the program `pool` prints, in bytes.
+use Rattle.std.specs.Prelude.{ℕ, zero, suc, ◌+◌, ◌-◌, ◌*◌, ◌/◌, ◌%◌, Bool, cond, ◌&&◌, nat_lt, nat_le, nat_eq}
+use Rattle.std.specs.Prelude.{List, [], ◌∷◌, ◌++◌, length, get_or, drop, codes}
 use Rattle.machine.specs.declared.code.Command.{Command}
 use Rattle.machine.specs.declared.answer.Answer.{Answer}
-use Rattle.machine.specs.Run.{commands_of, is_opened, sums_in_threes}
+use Rattle.machine.specs.Run.{is_opened}
 use Rattle.session.specs.declared.answer.SessionAnswer.{SessionAnswer}
 use Rattle.session.specs.Words.{words_of}
 use Rattle.session.specs.Contents.{Sheet, sheet_of}
-use Rattle.session.specs.Session.{State, Outcome, run_of, session}
+use Rattle.session.specs.Session.{State, run_of, session}
 
 -- ---- numbers and lines
 
--- the last decimal digit of n
+-- the last decimal digit of n; 48 is the digit 0
 abbrev pub last_digit : ℕ → ℕ
 last_digit n = 48 + n % 10
 
@@ -31,108 +30,73 @@ value_of n [] = n
 value_of n (d ∷ l) = value_of (10 * n + (d - 48)) l
 
 -- each number after a space
-unfoldable pub spaced : List ℕ → List ℕ
-spaced [] = []
-spaced (n ∷ l) = 32 ∷ (decimal n ++ spaced l)
+unfoldable pub spaced_numbers : List ℕ → List ℕ
+spaced_numbers [] = []
+spaced_numbers (n ∷ l) = codes " " ++ (decimal n ++ spaced_numbers l)
 
--- a word, its numbers and the end of the line
+-- a name, its numbers and the end of the line
 abbrev pub line : List ℕ → List ℕ → List ℕ
-line name numbers = name ++ (spaced numbers ++ (10 ∷ []))
+line name numbers = name ++ (spaced_numbers numbers ++ codes "\n")
 
-abbrev pub open_word : List ℕ
-open_word = 111 ∷ 112 ∷ 101 ∷ 110 ∷ []
-
-abbrev pub end_word : List ℕ
-end_word = 101 ∷ 110 ∷ 100 ∷ []
-
-abbrev pub refused_word : List ℕ
-refused_word = 114 ∷ 101 ∷ 102 ∷ 117 ∷ 115 ∷ 101 ∷ 100 ∷ []
-
-abbrev pub at_word : List ℕ
-at_word = 32 ∷ 97 ∷ 116 ∷ []
-
--- `open H W`
+-- `open H W`: the handle and the word that is opened
 unfoldable pub open_line : ℕ → ℕ → List ℕ
-open_line handle word = line open_word (handle ∷ word ∷ [])
+open_line handle word = line (codes "open") (handle ∷ word ∷ [])
 
--- `end N A B C D`: 'commands done, words received by miners 1 to 3 and the controller'
+-- `end N A B C D`: commands done, and the words that miners 1 to 3 and the controller received
 unfoldable pub end_line : SessionAnswer → List ℕ
 end_line a =
     let r = a.place.received in
-    line end_word (a.done ∷ r.one ∷ r.two ∷ r.three ∷ r.controller ∷ [])
+    line (codes "end") (a.done ∷ r.one ∷ r.two ∷ r.three ∷ r.controller ∷ [])
 
--- `refused R at K`
-unfoldable pub stopped_line : ℕ → ℕ → List ℕ
-stopped_line number command = (refused_word ++ spaced (number ∷ [])) ++ line at_word (command ∷ [])
+-- `refused R at K`: the number, and which command is refused, counted from 0
+unfoldable pub stop_line : ℕ → ℕ → List ℕ
+stop_line number command = (codes "refused" ++ spaced_numbers (number ∷ [])) ++ line (codes " at") (command ∷ [])
 
--- `refused R`
-unfoldable pub refused_line : ℕ → List ℕ
-refused_line number = line refused_word (number ∷ [])
+-- `refused R`: the number that turns the session down as a whole
+unfoldable pub refusal_line : ℕ → List ℕ
+refusal_line number = line (codes "refused") (number ∷ [])
 
 -- ---- the text of a session
 
--- '`open H W` for each accepted open (handle, word, decimal)'
+-- a line for each accepted open
 unfoldable pub open_lines : List Command → List Answer → List ℕ
 open_lines [] l = []
 open_lines (c ∷ cs) [] = []
 open_lines (c ∷ cs) (a ∷ l) = cond (is_opened c a) (open_line c.a a.opened) [] ++ open_lines cs l
 
--- 'then `end N A B C D`, or `refused R at K`'
-abbrev pub last_line : SessionAnswer → List ℕ
-last_line a = cond (nat_eq a.number 0) (end_line a) (stopped_line a.number a.done)
+-- a line for each open among accepted commands, with the words that they open, in order
+unfoldable pub open_lines_by_words : List Command → List ℕ → List ℕ
+open_lines_by_words [] w = []
+open_lines_by_words (c ∷ cs) w =
+    cond (nat_eq c.code 11) (open_line c.a (get_or w 0 0) ++ open_lines_by_words cs (drop 1 w))
+    (open_lines_by_words cs w)
 
--- 'or for numbers 1 to 4 `refused R`'
+-- and then how the session ended
+abbrev pub last_line : SessionAnswer → List ℕ
+last_line a = cond (nat_eq a.number 0) (end_line a) (stop_line a.number a.done)
+
+-- numbers 1 to 4, which have one line alone
 abbrev pub is_early : ℕ → Bool
 is_early number = nat_lt 0 number && nat_le number 4
 
 unfoldable pub text_of : Sheet → State → SessionAnswer → List ℕ
-text_of b s a = cond (is_early a.number) (refused_line a.number) (open_lines b.commands (run_of b s).answers ++ last_line a)
+text_of b s a =
+    cond (is_early a.number) (refusal_line a.number) (open_lines b.commands (run_of b s).answers ++ last_line a)
 
 -- ---- the program
 
 -- what it prints, and what it leaves in the lent lists
-pub record Printed : Type 0 where
+pub record PoolOutcome : Type 0 where
   pub text : List ℕ
   pub words : List ℕ
   pub state : State
 
-abbrev pub printed : List ℕ → List ℕ → State → Printed
-printed t w s = record { text = t; words = w; state = s }
+abbrev pub pool_outcome : List ℕ → List ℕ → State → PoolOutcome
+pool_outcome t w s = record { text = t; words = w; state = s }
 
-abbrev pub reported : List ℕ → State → Outcome → Printed
-reported file s o = printed (text_of (sheet_of (words_of file)) s o.answer) o.words o.state
-
--- 'Over 30,768 bytes, the longest legal file, it prints `refused 3`, even where 1 or 2 applies'
-unfoldable pub pool : List ℕ → List ℕ → State → Printed
-pool file w s = cond (nat_lt 30768 (length file)) (printed (refused_line 3) w s) (reported file s (session file w s))
-
--- the text at the front of a lent buffer, with its length
-pub record Rendered : Type 0 where
-  pub length : ℕ
-  pub out : List ℕ
-  pub words : List ℕ
-  pub state : State
-
-abbrev pub rendered : ℕ → List ℕ → List ℕ → State → Rendered
-rendered n out w s = record { length = n; out = out; words = w; state = s }
-
-abbrev pub into : List ℕ → Printed → Rendered
-into out p = rendered (length p.text) (sets out 0 p.text) p.words p.state
-
--- ---- as the code has it: from the answer, the words and the controller's received words that a session leaves
-
--- a line for each open among accepted commands, with the words that they open, in order
-unfoldable pub lines_with : List Command → List ℕ → List ℕ
-lines_with [] w = []
-lines_with (c ∷ cs) w = cond (nat_eq c.code 11) (open_line c.a (get_or w 0 0) ++ lines_with cs (drop 1 w)) (lines_with cs w)
-
-unfoldable pub text_from : SessionAnswer → List ℕ → List ℕ → List ℕ
-text_from a w shares =
-    cond (is_early a.number) (refused_line a.number)
-    (lines_with (commands_of (take (3 * a.done) (drop 12 w))) (sums_in_threes (modulus 5) (take a.place.received.controller shares)) ++ last_line a)
-
--- what is read of these is there
-pub record Readable (a : SessionAnswer) (w shares : List ℕ) : Type 0 where
-  pub within_limit : 3 * a.done ≤ 384
-  pub has_commands : 12 + 3 * a.done ≤ length w
-  pub has_shares : a.place.received.controller ≤ length shares
+-- a file of more than 30,768 bytes, which no legal one has, is refused with 3, even where 1 or 2 applies
+unfoldable pub pool : List ℕ → List ℕ → State → PoolOutcome
+pool file w s =
+    let o = session file w s in
+    cond (nat_lt 30768 (length file)) (pool_outcome (refusal_line 3) w s)
+    (pool_outcome (text_of (sheet_of (words_of file)) s o.answer) o.words o.state)

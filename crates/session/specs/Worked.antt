@@ -1,11 +1,12 @@
--- The worked session, one that stops and the empty one. The numbers are those of a second writing of the machine,
--- which shares nothing with this one: tests/worked_session.py prints this file.
+-- The worked session, one that stops, the empty one and a file of no word: what they answer, print and leave.
+-- The numbers are those of a second writing of the machine, which shares nothing with this one:
+-- tests/worked_session.py prints this file.
 use Rattle.std.specs.Prelude.{◌≡◌, ℕ, ◌/◌, ◌%◌, ◌≤◌, List, [], ◌∷◌, ◌++◌, length, drop, replicate, codes}
 use Rattle.protocols.specs.Place.{lists, place_of}
 use Rattle.machine.specs.Lent.{tables}
-use Rattle.machine.specs.Run.{empty}
-use Rattle.session.specs.Session.{State, state, answer, outcome, session}
-use Rattle.session.specs.Text.{printed, pool}
+use Rattle.machine.specs.Run.{empty_place}
+use Rattle.session.specs.Session.{State, state, session_answer, session_outcome, session}
+use Rattle.session.specs.Text.{pool_outcome, pool}
 
 -- ---- the files
 
@@ -15,8 +16,8 @@ bytes [] = []
 bytes (w ∷ l) = w % 256 ∷ w / 256 % 256 ∷ w / 65536 % 256 ∷ w / 16777216 ∷ bytes l
 
 -- start and count of each body; four commands; two inputs; the tapes of the provider and of miners 1 to 3
-abbrev pub worked : List ℕ
-worked =
+abbrev pub worked_file : List ℕ
+worked_file =
     12 ∷ 12 ∷ 24 ∷ 2 ∷ 26 ∷ 4 ∷ 30 ∷ 3 ∷ 33 ∷ 3 ∷ 36 ∷ 3 ∷
     1 ∷ 0 ∷ 0 ∷ 1 ∷ 0 ∷ 0 ∷ 6 ∷ 1 ∷ 2 ∷ 11 ∷ 3 ∷ 0 ∷
     7 ∷ 5 ∷
@@ -26,16 +27,16 @@ worked =
     50 ∷ 60 ∷ 90 ∷ []
 
 -- a store, and an add that names handle 0
-abbrev pub stopped : List ℕ
-stopped =
+abbrev pub stopped_file : List ℕ
+stopped_file =
     12 ∷ 6 ∷ 18 ∷ 1 ∷ 19 ∷ 2 ∷ 21 ∷ 0 ∷ 21 ∷ 0 ∷ 21 ∷ 0 ∷
     1 ∷ 0 ∷ 0 ∷ 2 ∷ 0 ∷ 1 ∷
     7 ∷
     1 ∷ 2 ∷ []
 
 -- six bodies without a word
-abbrev pub nothing : List ℕ
-nothing =
+abbrev pub empty_file : List ℕ
+empty_file =
     12 ∷ 0 ∷ 12 ∷ 0 ∷ 12 ∷ 0 ∷ 12 ∷ 0 ∷ 12 ∷ 0 ∷ 12 ∷ 0 ∷ []
 
 -- ---- what the program lends, and what the first two leave in it
@@ -44,14 +45,14 @@ abbrev pub zeros : ℕ → List ℕ
 zeros n = replicate n 0
 
 -- share tables and kinds; the words received by miners 1 to 3 and the controller
-abbrev pub before : State
-before =
+abbrev pub state_before : State
+state_before =
     state (tables (zeros 128) (zeros 128) (zeros 128)) (zeros 128)
     (lists (zeros 3584) (zeros 3584) (zeros 3584) (zeros 3584))
 
 -- two values and their product
-abbrev pub after : State
-after =
+abbrev pub state_after : State
+state_after =
     state
     (tables
     (1 ∷ 3 ∷ 4294967149 ∷ zeros 125)
@@ -65,8 +66,8 @@ after =
     (4294967129 ∷ 4294966084 ∷ 1414 ∷ zeros 3581))
 
 -- the value that was stored
-abbrev pub after_stop : State
-after_stop =
+abbrev pub state_after_stop : State
+state_after_stop =
     state
     (tables
     (1 ∷ zeros 127)
@@ -84,22 +85,30 @@ after_stop =
 -- the lent words then begin with the file's, and the rest of them is as it was. A file of no word is refused.
 pub record WorkedSession : Type 0 where
   -- four commands are done; the ten counts of the place record
-  pub answered : (w : List ℕ) → 7692 ≤ length w
-      → session (bytes worked) w before
-      ≡ outcome (answer 4 (place_of (3 ∷ 2 ∷ 4 ∷ 3 ∷ 3 ∷ 3 ∷ 7 ∷ 7 ∷ 7 ∷ 3 ∷ [])) 0) (worked ++ drop 39 w) after
-  pub shown : (w : List ℕ) → 7692 ≤ length w
-      → pool (bytes worked) w before ≡ printed (codes "open 3 35\nend 4 7 7 7 3\n") (worked ++ drop 39 w) after
+  pub worked_outcome : (w : List ℕ) → 7692 ≤ length w
+      → session (bytes worked_file) w state_before
+      ≡ session_outcome (session_answer 4 (place_of (3 ∷ 2 ∷ 4 ∷ 3 ∷ 3 ∷ 3 ∷ 7 ∷ 7 ∷ 7 ∷ 3 ∷ [])) 0)
+      (worked_file ++ drop 39 w) state_after
+  pub worked_text : (w : List ℕ) → 7692 ≤ length w
+      → pool (bytes worked_file) w state_before
+      ≡ pool_outcome (codes "open 3 35\nend 4 7 7 7 3\n") (worked_file ++ drop 39 w) state_after
   -- one command is done, and what it left stays; the next one is refused
-  pub stop_answered : (w : List ℕ) → 7692 ≤ length w
-      → session (bytes stopped) w before
-      ≡ outcome (answer 1 (place_of (1 ∷ 1 ∷ 2 ∷ 0 ∷ 0 ∷ 0 ∷ 1 ∷ 1 ∷ 1 ∷ 0 ∷ [])) 7) (stopped ++ drop 21 w) after_stop
-  pub stop_shown : (w : List ℕ) → 7692 ≤ length w
-      → pool (bytes stopped) w before ≡ printed (codes "refused 7 at 1\n") (stopped ++ drop 21 w) after_stop
+  pub stopped_outcome : (w : List ℕ) → 7692 ≤ length w
+      → session (bytes stopped_file) w state_before
+      ≡ session_outcome (session_answer 1 (place_of (1 ∷ 1 ∷ 2 ∷ 0 ∷ 0 ∷ 0 ∷ 1 ∷ 1 ∷ 1 ∷ 0 ∷ [])) 7)
+      (stopped_file ++ drop 21 w) state_after_stop
+  pub stopped_text : (w : List ℕ) → 7692 ≤ length w
+      → pool (bytes stopped_file) w state_before
+      ≡ pool_outcome (codes "refused 7 at 1\n") (stopped_file ++ drop 21 w) state_after_stop
   -- no command is done, and only the lent words change
-  pub nothing_answered : (w : List ℕ) → 7692 ≤ length w
-      → session (bytes nothing) w before ≡ outcome (answer 0 empty 0) (nothing ++ drop 12 w) before
-  pub nothing_shown : (w : List ℕ) → 7692 ≤ length w
-      → pool (bytes nothing) w before ≡ printed (codes "end 0 0 0 0 0\n") (nothing ++ drop 12 w) before
+  pub empty_outcome : (w : List ℕ) → 7692 ≤ length w
+      → session (bytes empty_file) w state_before
+      ≡ session_outcome (session_answer 0 empty_place 0) (empty_file ++ drop 12 w) state_before
+  pub empty_text : (w : List ℕ) → 7692 ≤ length w
+      → pool (bytes empty_file) w state_before
+      ≡ pool_outcome (codes "end 0 0 0 0 0\n") (empty_file ++ drop 12 w) state_before
   -- no command is done, and nothing changes
-  pub short_answered : (w : List ℕ) → session [] w before ≡ outcome (answer 0 empty 1) w before
-  pub short_shown : (w : List ℕ) → pool [] w before ≡ printed (codes "refused 1\n") w before
+  pub no_word_outcome : (w : List ℕ)
+      → session [] w state_before ≡ session_outcome (session_answer 0 empty_place 1) w state_before
+  pub no_word_text : (w : List ℕ)
+      → pool [] w state_before ≡ pool_outcome (codes "refused 1\n") w state_before

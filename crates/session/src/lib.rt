@@ -1,11 +1,15 @@
-// The session layer: a file's contents, the run of its commands, and the text that `pool` prints.
+//! The session layer: a file's contents, the run of its commands, and the text that `pool` prints.
 #![tactic(auto)]
 
-pub mod answer;
+mod answer;
 mod contents;
-pub mod pool;
 pub mod promises;
+mod report;
 mod run;
-pub mod session;
+mod sheet;
 mod text;
 mod words;
+
+pub use answer::SessionAnswer;
+pub use report::{BYTES, TEXT, pool};
+pub use sheet::{WORDS, session};

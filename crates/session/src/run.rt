@@ -1,10 +1,11 @@
-// The run of a sheet's commands.
+//! The run of a sheet's commands.
 ghost use Rattle.std.specs.Prelude.{◌≡◌, ◌+◌, ◌*◌, ◌≤◌};
-ghost use Rattle.protocols.specs.Lent.{Same};
+ghost use Rattle.protocols.specs.Lent.{SameLists};
 ghost use Rattle.machine.specs.Lent.{SameTables};
-ghost use Rattle.session.specs.Contents.{sheet_of, Bodies};
-ghost use Rattle.session.specs.Contents as contents;
-ghost use Rattle.session.specs.Session.{lent_state, finish, finished, run_of};
+ghost use Rattle.session.specs.Contents.{sheet_of};
+ghost use Rattle.session.specs.Contents as spec;
+ghost use Rattle.session.specs.Session.{lent_state, session_outcome, outcome_of_run, run_of};
+ghost use Rattle.session.specs.Private.Bodies.{Bodies};
 
 use super::answer::SessionAnswer;
 use machine::lent::Tables;
@@ -14,8 +15,9 @@ use protocols::place::Place;
 
 // Body k: the part of the word list that the contents name.
 fn body(words: &[u32], k: usize) -> &[u32]
-    requires { (k ≤ 5) × Bodies words.now }
-    ensures { result.now ≡ contents.body words.now k }
+    requires index { k ≤ 5 }
+    requires bodies { Bodies words.now }
+    ensures { result.now ≡ spec.body words.now k }
 {
     let start = words[2 * k] as usize;
     let end = start + words[2 * k + 1] as usize;
@@ -26,8 +28,9 @@ fn body(words: &[u32], k: usize) -> &[u32]
 pub(crate) fn run_words(words: &[u32], tables: &mut Tables, lists: &mut Lists) -> SessionAnswer
     requires { Bodies words.now }
     ensures same_tables { SameTables tables.old tables.new }
-    ensures same_lists { Same lists.old lists.new }
-    ensures done { finish result (lent_state tables.new lists.new) ≡ finished (run_of (sheet_of words.now) (lent_state tables.old lists.old)) }
+    ensures same_lists { SameLists lists.old lists.new }
+    ensures outcome { session_outcome result words.now (lent_state tables.new lists.new)
+        ≡ outcome_of_run (run_of (sheet_of words.now) (lent_state tables.old lists.old)) words.now }
 {
     let tapes = Tapes {
         provider: body(words, 2),

@@ -1,20 +1,21 @@
-// The lines of text, put at the front of a lent buffer.
+//! The lines of text, put at the front of a lent buffer.
 ghost use Rattle.std.specs.Prelude.{◌≡◌, ◌+◌, ◌*◌, ◌≤◌, [], ◌∷◌, length};
 ghost use Rattle.protocols.specs.Word.{modulus};
 ghost use Rattle.protocols.specs.Shares.{shares_of, sum_of};
 ghost use Rattle.machine.specs.Run.{commands_of, sums_in_threes};
-ghost use Rattle.session.specs.Text.{spaced, end_line, stopped_line, last_line, refused_line, lines_with};
+ghost use Rattle.session.specs.Text.{spaced_numbers, end_line, stop_line, last_line, refusal_line, open_lines_by_words};
 ghost use Rattle.session.specs.Text as spec;
-ghost use Rattle.session.specs.Writing.{Adds, Room};
+ghost use Rattle.session.specs.Private.Writing.{Adds, HasRoom};
 
 use super::answer::SessionAnswer;
 use protocols::open;
 use protocols::shares::Shares;
 
-// The code of the command that opens a value. (Accepted commands alone are told of: a `Code` of each would be made for this one test.)
+// The code of the command that opens a value.
 const OPEN: u32 = 11;
 
-// The text so far, at the front of a lent buffer of fixed size. (No `fmt::Write`: this one's room is proved, so that no write can fail.)
+// The text so far, at the front of a lent buffer of fixed size. Each method asks for the room that it needs, so that no
+// write can fail.
 #[derive(Drop)]
 pub(crate) struct Text<'a> {
     out: &'a mut [u8],
@@ -24,7 +25,8 @@ pub(crate) struct Text<'a> {
 impl<'a> Text<'a> {
     pub(crate) fn new(out: &'a mut [u8]) -> Text<'a>
         ensures same_reference { result.out.ghost_name ≡ out.entry.ghost_name }
-        ensures empty { (result.out.now ≡ out.old) × (result.len ≡ 0) }
+        ensures same_bytes { result.out.now ≡ out.old }
+        ensures empty { result.len ≡ 0 }
     {
         Text { out, len: 0 }
     }
@@ -36,7 +38,7 @@ impl<'a> Text<'a> {
     }
 
     fn put_bytes(&mut self, bytes: &[u8])
-        requires { Room self.old (length bytes.now) }
+        requires { HasRoom self.old (length bytes.now) }
         ensures { Adds self.old bytes.now self.new }
     {
         let end = self.len + bytes.len();
@@ -46,18 +48,19 @@ impl<'a> Text<'a> {
 
     // A space and a number.
     fn put_number(&mut self, n: u64)
-        requires { Room self.old 21 }
-        ensures { Adds self.old (spaced (n ∷ [])) self.new }
+        requires { HasRoom self.old 21 }
+        ensures { Adds self.old (spaced_numbers (n ∷ [])) self.new }
     {
         let mut digits = itoa::Buffer::new();
         self.put_bytes(b" ");
         self.put_bytes(digits.format(n).as_bytes());
     }
 
-    #[tactic(auto, using(crate::proofs::Laws::Text::spaced_front, crate::proofs::Laws::Puts::adds_nothing), unfolding(crate::specs::Text::spaced))]
+    // Each number after a space.
+    #[tactic(auto, using(crate::proofs::Laws::Text::numbers_fit), unfolding(crate::specs::Text::spaced_numbers))]
     fn put_numbers(&mut self, numbers: &[u64])
-        requires { Room self.old (21 * length numbers.now) }
-        ensures added { Adds self.old (spaced numbers.now) self.new }
+        requires { HasRoom self.old (21 * length numbers.now) }
+        ensures added { Adds self.old (spaced_numbers numbers.now) self.new }
         ensures short { self.new.len ≤ self.old.len + 21 * length numbers.now }
     {
         for n in numbers {
@@ -65,9 +68,9 @@ impl<'a> Text<'a> {
         }
     }
 
-    // A word, its numbers and the end of the line.
+    // A name, its numbers and the end of the line.
     fn put_line(&mut self, name: &[u8], numbers: &[u64])
-        requires { Room self.old (length name.now + 21 * length numbers.now + 1) }
+        requires { HasRoom self.old (length name.now + 21 * length numbers.now + 1) }
         ensures added { Adds self.old (spec.line name.now numbers.now) self.new }
         ensures short { self.new.len ≤ self.old.len + (length name.now + 21 * length numbers.now + 1) }
     {
@@ -79,7 +82,8 @@ impl<'a> Text<'a> {
     // A line for each open among accepted commands; the shares are the controller's, three for each.
     pub(crate) fn put_opens(&mut self, commands: &[u32], shares: &[u32])
         requires { 3 * self.old.len + 47 * length commands.now ≤ 3 * length self.old.out.now }
-        ensures added { Adds self.old (lines_with (commands_of commands.now) (sums_in_threes (modulus 5) shares.now)) self.new }
+        ensures added { Adds self.old
+            (open_lines_by_words (commands_of commands.now) (sums_in_threes (modulus 5) shares.now)) self.new }
         ensures short { 3 * self.new.len ≤ 3 * self.old.len + 47 * length commands.now }
     {
         let (commands, _) = commands.as_chunks::<3>();
@@ -87,7 +91,7 @@ impl<'a> Text<'a> {
         let mut opened = shares.iter();
         for [code, handle, _] in commands {
             if *code == OPEN {
-                let word = opened.next().map_or(0, sum);
+                let word = opened.next().map_or(0, sum_of_words);
                 self.put_line(b"open", &[u64::from(*handle), u64::from(word)]);
             }
         }
@@ -95,19 +99,20 @@ impl<'a> Text<'a> {
 
     // What ends the text: all commands were done, or one was refused.
     pub(crate) fn put_last(&mut self, answer: SessionAnswer)
-        requires { Room self.old 109 }
+        requires { HasRoom self.old 109 }
         ensures { Adds self.old (last_line answer) self.new }
     {
         if answer.number == 0 {
             self.put_end(answer);
         } else {
-            self.put_stopped(answer.number, answer.done);
+            self.put_stop(answer.number, answer.done);
         }
     }
 
+    // That all commands were done, and how many words were received.
     #[tactic(auto, unfolding(crate::specs::Text::end_line))]
     fn put_end(&mut self, answer: SessionAnswer)
-        requires { Room self.old 109 }
+        requires { HasRoom self.old 109 }
         ensures { Adds self.old (end_line answer) self.new }
     {
         let received = answer.place.received;
@@ -121,28 +126,28 @@ impl<'a> Text<'a> {
         self.put_line(b"end", &numbers);
     }
 
-    // A number and no `Refusal`: the answer has it as C has it.
-    fn put_stopped(&mut self, number: u32, command: usize)
-        requires { Room self.old 53 }
-        ensures { Adds self.old (stopped_line number command) self.new }
+    // That a command was refused, with which number.
+    fn put_stop(&mut self, number: u32, command: usize)
+        requires { HasRoom self.old 53 }
+        ensures { Adds self.old (stop_line number command) self.new }
     {
         self.put_bytes(b"refused");
         self.put_numbers(&[u64::from(number)]);
         self.put_line(b" at", &[command as u64]);
     }
 
-    // A number, as in `put_stopped`.
-    #[tactic(auto, unfolding(crate::specs::Text::refused_line))]
-    pub(crate) fn put_refused(&mut self, number: u32)
-        requires { Room self.old 29 }
-        ensures { Adds self.old (refused_line number) self.new }
+    // That the session was turned down as a whole.
+    #[tactic(auto, unfolding(crate::specs::Text::refusal_line))]
+    pub(crate) fn put_refusal(&mut self, number: u32)
+        requires { HasRoom self.old 29 }
+        ensures { Adds self.old (refusal_line number) self.new }
     {
         self.put_line(b"refused", &[u64::from(number)]);
     }
 }
 
 // The word that three shares add up to.
-fn sum(words: &[u32; 3]) -> u32
+fn sum_of_words(words: &[u32; 3]) -> u32
     ensures { result ≡ sum_of (modulus 5) (shares_of words.now) }
 {
     open::total(Shares::from(*words))

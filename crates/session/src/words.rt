@@ -1,11 +1,11 @@
-// A file's words.
+//! A file's words, put at the front of the lent ones.
 ghost use Rattle.std.specs.Prelude.{◌≡◌, ◌+◌, ◌++◌, ◌/◌, ◌≤◌, length, drop};
 ghost use Rattle.std.proofs.lemmas.List.Edits.{sets};
 ghost use Rattle.session.specs.Words.{words_of};
 
-// Puts the words of bytes at a place of the lent ones. (By index: of an `iter_mut` within a `zip` no invariant reaches what it writes.)
+// Puts the words of bytes at a place of the lent ones.
 #[inline(always)]
-fn put(bytes: &[u8], words: &mut [u32], at: usize)
+fn put_words(bytes: &[u8], words: &mut [u32], at: usize)
     requires { at + length bytes.now / 4 ≤ length words.old }
     ensures { words.new ≡ sets words.old at (words_of bytes.now) }
 {
@@ -15,14 +15,14 @@ fn put(bytes: &[u8], words: &mut [u32], at: usize)
     }
 }
 
-// The same of a block of four words: by value, so that all of it is read before a word is written, which for all that the compiler knows
-// could be the file's own bytes.
+// The same of a block of four words. It is taken by value, so that all of it is read before a word is written: the
+// compiler does not know that the words are not the file's own bytes.
 #[inline(always)]
 fn put_block(block: [u8; 16], words: &mut [u32], at: usize)
     requires { at + 4 ≤ length words.old }
     ensures { words.new ≡ sets words.old at (words_of block) }
 {
-    put(&block, words, at);
+    put_words(&block, words, at);
 }
 
 // Puts the file's words at the front of the lent ones.
@@ -34,5 +34,5 @@ pub(crate) fn decode(file: &[u8], words: &mut [u32])
     for (i, block) in blocks.iter().enumerate() {
         put_block(*block, words, 4 * i);
     }
-    put(rest, words, 4 * blocks.len());
+    put_words(rest, words, 4 * blocks.len());
 }

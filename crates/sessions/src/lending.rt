@@ -1,8 +1,7 @@
-// A session with lists of chosen lengths, all zero.
+//! A session with lists of chosen lengths, all zero.
 use machine::lent::Tables;
 use protocols::lent::Lists;
-use session::pool::TEXT;
-use session::session::WORDS;
+use session::{TEXT, WORDS};
 use std::io;
 use std::io::Write;
 
@@ -23,7 +22,7 @@ pub(crate) const WHOLE: Lending = Lending {
     words: WORDS,
 };
 
-// The front of a list, or all of it. (That of `vectors` cuts tapes that are only read.)
+// The front of a list, or all of it.
 fn front(list: &mut [u32], count: usize) -> &mut [u32] {
     let end = count.min(list.len());
     &mut list[..end]
@@ -54,6 +53,6 @@ pub(crate) fn print(out: &mut impl Write, file: &[u8], lent: Lending) -> io::Res
         controller: front(&mut controller, lent.controller),
     };
     let words = front(&mut words, lent.words);
-    let length = session::pool::pool(file, words, &mut tables, &mut lists, &mut text);
+    let length = session::pool(file, words, &mut tables, &mut lists, &mut text);
     out.write_all(&text[..length])
 }

@@ -1,4 +1,4 @@
-// Prints, for each session file that an argument names, its name and what `pool` prints of it under four lendings.
+//! Prints, for each session file that an argument names, its name and what `pool` prints of it under four lendings.
 #![tactic(auto)]
 
 mod lending;
@@ -6,7 +6,7 @@ mod lending;
 ghost use Rattle.std.specs.Io.{ReadsAtMost};
 
 use lending::{Lending, WHOLE};
-use session::pool::BYTES;
+use session::BYTES;
 use std::env::FillError;
 use std::io::Write;
 use std::process::ExitCode;
@@ -47,8 +47,8 @@ fn read_file(rt: &impl Files, path: &[u8], buffer: &mut [u8]) -> io::Result<usiz
     reading::read_whole(&mut fs::open(rt, path)?, buffer)
 }
 
-// Argument after argument, until one is missing. One that can't be read is reported on standard error and does not end the run; where the
-// report fails too, the exit status still tells it.
+// Argument after argument, until one is missing. One that cannot be read is reported on standard error and does not end
+// the run; where the report fails too, the exit status still tells it.
 fn print_arguments(rt: &(impl Env + Files + Eprint), out: &mut impl Write) -> io::Result<ExitCode> {
     let mut status = ExitCode::SUCCESS;
     for k in 1..usize::MAX {

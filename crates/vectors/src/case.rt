@@ -1,10 +1,9 @@
-// Generated cases: operands, a place that has moved on already, and tapes.
+//! Generated cases: operands, a place that has moved on already, and tapes.
+use crate::code::Code;
 use crate::lists::Delivered;
 use crate::words::Generator;
 use crate::{lists, print, short};
-use machine::code::Code;
-use machine::given::Given;
-use machine::row;
+use machine::arguments::Arguments;
 use protocols::lent::Tapes;
 use protocols::open;
 use protocols::place::{Drawn, Party, Place, Received};
@@ -32,14 +31,14 @@ pub(crate) const WHOLE_LISTS: Received = Received {
 #[derive(Clone, Copy)]
 pub struct Case {
     pub code: Code,
-    pub operands: Given,
+    pub operands: Arguments,
     pub place: Place,
     pub lent: Drawn,
     pub room: Received,
 }
 
 // Two random values are never equal: so v becomes u, or a power of two away from it.
-fn near(u: Shares, v: Shares, word: u32) -> Shares {
+fn near_value(u: Shares, v: Shares, word: u32) -> Shares {
     let apart = (word % 2) << (word / 2 % 32);
     let rest = open::total(u).wrapping_sub(v.one).wrapping_sub(v.two);
     Shares {
@@ -49,18 +48,18 @@ fn near(u: Shares, v: Shares, word: u32) -> Shares {
 }
 
 // The next two values and an input.
-fn operands(code: Code, generator: &mut Generator) -> Given {
+fn operands(code: Code, generator: &mut Generator) -> Arguments {
     let u = Shares::from(generator.words());
     let v = Shares::from(generator.words());
     let input = generator.next_word();
-    let given = Given { input, u, v };
+    let given = Arguments { input, u, v };
     match code {
-        Code::Bit => Given {
+        Code::Bit => Arguments {
             input: input % 32,
             ..given
         },
-        Code::Equal => Given {
-            v: near(u, v, input),
+        Code::Equal => Arguments {
+            v: near_value(u, v, input),
             ..given
         },
         _ => given,
@@ -83,8 +82,8 @@ fn place(generator: &mut Generator) -> Place {
 }
 
 // What is lent of each tape: from one word too few to six too many, where the protocol draws from the tape at all.
-fn cut(code: Code, drawn: Drawn, generator: &mut Generator) -> Drawn {
-    let need = row::of(code).drawn;
+fn lent_lengths(code: Code, drawn: Drawn, generator: &mut Generator) -> Drawn {
+    let need = code.row().drawn;
     let [provider, one, two, three]: [usize; 4] = generator.words().map(|word| (word % 8) as usize);
     let spare = Drawn {
         provider,
@@ -98,11 +97,11 @@ fn cut(code: Code, drawn: Drawn, generator: &mut Generator) -> Drawn {
     })
 }
 
-// The next case of a protocol, with tapes that are cut and whole lists.
-pub(crate) fn generated(code: Code, generator: &mut Generator) -> Case {
+// The next case of a protocol, with tapes that may be too short and whole lists.
+pub(crate) fn next_case(code: Code, generator: &mut Generator) -> Case {
     let operands = operands(code, generator);
     let place = place(generator);
-    let lent = cut(code, place.drawn, generator);
+    let lent = lent_lengths(code, place.drawn, generator);
     Case {
         code,
         operands,
@@ -129,14 +128,14 @@ pub(crate) fn perform(case: &Case, generator: &mut Generator) -> Delivered {
 
 // The first tape that a protocol draws from. One that draws from none sends nothing.
 pub(crate) fn first_tape(code: Code) -> Option<Party> {
-    let drawn = row::of(code).drawn;
+    let drawn = code.row().drawn;
     [Party::Provider, Party::One]
         .into_iter()
         .find(|party| 0 < drawn.of(*party))
 }
 
 // Prints the next case in full.
-pub(crate) fn printed(
+pub(crate) fn print(
     out: &mut impl Write,
     number: usize,
     code: Code,
@@ -144,7 +143,7 @@ pub(crate) fn printed(
 ) -> io::Result<()> {
     let case = Case {
         lent: WHOLE_TAPES,
-        ..generated(code, generator)
+        ..next_case(code, generator)
     };
     let delivered = perform(&case, generator);
     write!(out, "case {number} ")?;

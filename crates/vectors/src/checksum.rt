@@ -1,8 +1,8 @@
-// Two hundred generated cases of a protocol as one number: h becomes 31 h + word for each word of each outcome.
+//! Two hundred generated cases of a protocol as one number: h becomes 31 h + word for each word of each outcome.
+use crate::code::Code;
 use crate::lists::Delivered;
 use crate::words::Generator;
 use crate::{case, lists, print};
-use machine::code::Code;
 use protocols::place::Place;
 use protocols::shares::Shares;
 use std::io;
@@ -20,7 +20,7 @@ fn shares(h: u32, s: Shares) -> u32 {
     [s.one, s.two, s.three].into_iter().fold(h, word)
 }
 
-// (The ten counts are named one by one: the record has fields, as C has it, and nothing else reads it as a list.)
+// The ten counts, in the order in which they are printed.
 fn place(h: u32, place: Place) -> u32 {
     let drawn = place.drawn;
     let received = place.received;
@@ -41,8 +41,8 @@ fn place(h: u32, place: Place) -> u32 {
 }
 
 // How many words were received, then the words.
-fn received(h: u32, list: &[u32; 32]) -> u32 {
-    let words = lists::received(list);
+fn received_words(h: u32, list: &[u32; 32]) -> u32 {
+    let words = lists::received_count(list);
     list.iter().take(words).copied().fold(count(h, words), word)
 }
 
@@ -53,20 +53,15 @@ fn outcome(h: u32, delivered: &Delivered) -> u32 {
     delivered
         .lists
         .iter()
-        .fold(h, |h, (_, list)| received(h, list))
+        .fold(h, |h, (_, list)| received_words(h, list))
 }
 
-// Tapes are cut, so that some of the outcomes are not done.
-pub(crate) fn printed(
-    out: &mut impl Write,
-    code: Code,
-    generator: &mut Generator,
-) -> io::Result<()> {
+// Tapes may be too short, so that some of the outcomes are not done.
+pub(crate) fn print(out: &mut impl Write, code: Code, generator: &mut Generator) -> io::Result<()> {
     let mut h = 0;
     for _ in 0..200 {
-        let case = case::generated(code, generator);
+        let case = case::next_case(code, generator);
         h = outcome(h, &case::perform(&case, generator));
     }
-    let name = print::name(code);
-    writeln!(out, "checksum {name} {h}")
+    writeln!(out, "checksum {code} {h}")
 }

@@ -1,18 +1,17 @@
-// Received lists with exactly enough room, with more, and with one word less: number 13, the place and all lists stay.
+//! Received lists with exactly enough room, with more, and with one word less: number 13, the place and all lists stay.
 use crate::case::Case;
+use crate::code::Code;
 use crate::lists::Receiver;
 use crate::words::Generator;
 use crate::{case, print, short};
-use machine::code::Code;
-use machine::row;
 use protocols::place::Received;
 use std::fmt::Display;
 use std::io;
 use std::io::Write;
 
-// What each list needs with so many words more, one word less in the short one. (As `each_tape` of `short.rt`, of another record.)
+// The room that each list needs and so many words more; in the short one a word less.
 fn room(code: Code, more: usize, short: Option<Receiver>) -> Received {
-    let need = row::of(code).received;
+    let need = code.row().received;
     let room = |receiver: Receiver| {
         short::enough(more, receiver.due(need), short == Some(receiver))
     };
@@ -33,29 +32,25 @@ fn line(
 ) -> io::Result<()> {
     let delivered = case::perform(&case, &mut generator);
     let Case { code, room, .. } = case;
-    let name = print::name(code);
     let place = delivered.done().place;
-    write!(out, "deliver {label} {name} room {room}")?;
+    write!(out, "deliver {label} {code} room {room}")?;
     print::outcome(out, &delivered)?;
     writeln!(out, " place {place}")?;
     print::lists(out, &delivered, true)
 }
 
-// A protocol that sends, on the case of its tapes that end too soon, and all on the same words: a line for exactly enough room, for more,
-// and for each list that the protocol's words go to, a word short. Where a tape is short too, that counts first: number 12.
-pub(crate) fn printed(
-    out: &mut impl Write,
-    code: Code,
-    mut generator: Generator,
-) -> io::Result<()> {
+// A protocol that sends, on the case of its tapes that end too soon, and all on the same words: a line for exactly
+// enough room, for more, and for each list that the protocol's words go to, a word short. Where a tape is short too,
+// that counts first: number 12.
+pub(crate) fn print(out: &mut impl Write, code: Code, mut generator: Generator) -> io::Result<()> {
     let Some(first) = case::first_tape(code) else {
         return Ok(());
     };
     let exact = Case {
         place: short::place(),
-        lent: short::cut(code, None),
+        lent: short::lent_lengths(code, None),
         room: room(code, 0, None),
-        ..case::generated(code, &mut generator)
+        ..case::next_case(code, &mut generator)
     };
     let more = Case {
         room: room(code, 2, None),
@@ -69,7 +64,7 @@ pub(crate) fn printed(
         Receiver::Three,
         Receiver::Controller,
     ] {
-        if 0 < short.due(row::of(code).received) {
+        if 0 < short.due(code.row().received) {
             let case = Case {
                 room: room(code, 0, Some(short)),
                 ..exact
@@ -78,7 +73,7 @@ pub(crate) fn printed(
         }
     }
     let both = Case {
-        lent: short::cut(code, Some(first)),
+        lent: short::lent_lengths(code, Some(first)),
         room: room(code, 0, Some(Receiver::Two)),
         ..exact
     };

@@ -1,8 +1,7 @@
-// The received lists of a case: 32 words each, 100 to 131 beforehand. No case sends the word that stands there, so each word
-// put into them shows.
+//! The received lists of a case: 32 words each, 100 to 131 beforehand.
+//! No case sends the word that stands there, so each word put into them shows.
 use crate::case::Case;
 use crate::words;
-use machine::play;
 use machine::refusal::Refusal;
 use protocols::lent::{Lists, Tapes};
 use protocols::outcome::{Done, Shortage};
@@ -10,7 +9,7 @@ use protocols::place::{Place, Received};
 use protocols::shares::Shares;
 use std::fmt;
 
-// Whose list it is. (Not who draws: the controller does not, and the provider has no list.)
+// Whose list it is.
 #[derive(Clone, Copy, PartialEq, Eq)]
 pub enum Receiver {
     One,
@@ -42,7 +41,8 @@ impl fmt::Display for Receiver {
     }
 }
 
-// What a protocol answers from a place, and each receiver's list as it leaves it, in the order in which they are printed.
+// What a protocol answers from a place, and each receiver's list as it leaves it, in the order in which they are
+// printed.
 #[derive(Clone, Copy)]
 pub struct Delivered {
     place: Place,
@@ -51,7 +51,7 @@ pub struct Delivered {
 }
 
 impl Delivered {
-    // 0, or document 01's number.
+    // 0, or the number of the refusal.
     pub(crate) fn number(&self) -> u32 {
         match self.outcome {
             Ok(_) => 0,
@@ -74,14 +74,14 @@ fn before() -> [u32; 32] {
 }
 
 // How many words were put into a list.
-pub(crate) fn received(list: &[u32; 32]) -> usize {
+pub(crate) fn received_count(list: &[u32; 32]) -> usize {
     list.iter()
         .zip(&before())
         .filter(|(word, before)| word != before)
         .count()
 }
 
-// The first words of a tape, or all of it. (That of `sessions` cuts lists that are written to.)
+// The first words of a tape, or all of it.
 fn front(tape: &[u32], count: usize) -> &[u32] {
     tape.get(..count).unwrap_or(tape)
 }
@@ -92,7 +92,8 @@ fn tail(list: &mut [u32], room: usize) -> &mut [u32] {
     &mut list[start..]
 }
 
-// Performs a case on what it lends: fronts of the tapes and tails of the lists. The operands' input is also the constant or the position.
+// Performs a case on what it lends: fronts of the tapes and tails of the lists. The operands' input is also the
+// constant or the position.
 pub(crate) fn perform(case: &Case, tapes: &Tapes) -> Delivered {
     let Case {
         code,
@@ -117,7 +118,7 @@ pub(crate) fn perform(case: &Case, tapes: &Tapes) -> Delivered {
         three: tail(&mut three, room.three),
         controller: tail(&mut controller, room.controller),
     };
-    let outcome = play::play(code, operands.input, operands, place, &fronts, &mut tails);
+    let outcome = code.play(operands.input, operands, place, &fronts, &mut tails);
     Delivered {
         place,
         outcome,

@@ -1,33 +1,15 @@
-// What is printed of a case, an outcome and a list.
+//! What is printed of a case, an outcome and a list.
 use crate::case::Case;
+use crate::code::Code;
 use crate::lists;
 use crate::lists::Delivered;
-use machine::code::Code;
-use machine::given::Given;
+use machine::arguments::Arguments;
 use std::io;
 use std::io::Write;
 
-// As the separate writing names them. (No `Display`: `Code` is another crate's.)
-pub(crate) fn name(code: Code) -> &'static str {
-    match code {
-        Code::Store => "store",
-        Code::Add => "add",
-        Code::Subtract => "subtract",
-        Code::AddConstant => "add constant",
-        Code::TimesConstant => "times constant",
-        Code::Multiply => "multiply",
-        Code::Reshare => "reshare",
-        Code::Bits => "bits",
-        Code::Bit => "bit",
-        Code::Equal => "equal",
-        Code::Open => "open",
-        Code::Below => "below",
-    }
-}
-
 // The operands that the protocol uses.
 fn operands(out: &mut impl Write, case: &Case) -> io::Result<()> {
-    let Given { input, u, v } = case.operands;
+    let Arguments { input, u, v } = case.operands;
     match case.code {
         Code::Store => write!(out, " w {input}"),
         Code::AddConstant | Code::TimesConstant | Code::Bit => write!(out, " u {u} w {input}"),
@@ -45,8 +27,8 @@ pub(crate) fn outcome(out: &mut impl Write, delivered: &Delivered) -> io::Result
 
 // The protocol, its operands, and the outcome's number and shares.
 pub(crate) fn case(out: &mut impl Write, case: &Case, delivered: &Delivered) -> io::Result<()> {
-    let name = name(case.code);
-    write!(out, "{name}")?;
+    let code = case.code;
+    write!(out, "{code}")?;
     operands(out, case)?;
     outcome(out, delivered)
 }
@@ -57,7 +39,7 @@ pub(crate) fn lists(out: &mut impl Write, delivered: &Delivered, whole: bool) ->
         let (verb, words) = if whole {
             ("list", list.len())
         } else {
-            ("receives", lists::received(list))
+            ("receives", lists::received_count(list))
         };
         write!(out, "  {receiver} {verb}")?;
         for word in list.iter().take(words) {

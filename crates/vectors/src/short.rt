@@ -1,9 +1,8 @@
-// Tapes with exactly enough words, and with one word too few: number 12, the place stays and no word is sent.
+//! Tapes with exactly enough words, and with one word too few: number 12, the place stays and no word is sent.
 use crate::case::Case;
+use crate::code::Code;
 use crate::words::Generator;
 use crate::{case, lists, print};
-use machine::code::Code;
-use machine::row;
 use protocols::place::{Drawn, Party, Place};
 use std::io;
 use std::io::Write;
@@ -33,43 +32,39 @@ pub(crate) fn each_tape<F: Fn(Party) -> usize>(words: F) -> Drawn
 }
 
 // Enough of each tape beside the words drawn already, but for the one that is a word short.
-pub(crate) fn cut(code: Code, short: Option<Party>) -> Drawn {
-    let need = row::of(code).drawn;
+pub(crate) fn lent_lengths(code: Code, short: Option<Party>) -> Drawn {
+    let need = code.row().drawn;
     let drawn = place().drawn;
     each_tape(|party| enough(drawn.of(party), need.of(party), short == Some(party)))
 }
 
 fn line(out: &mut impl Write, tape: &str, case: Case, generator: &mut Generator) -> io::Result<()> {
     let delivered = case::perform(&case, generator);
-    let name = print::name(case.code);
+    let code = case.code;
     let number = delivered.number();
     let place = delivered.done().place;
     write!(
         out,
-        "short {tape} {name} number {number} place {place} words"
+        "short {tape} {code} number {number} place {place} words"
     )?;
     for (_, list) in &delivered.lists {
-        let words = lists::received(list);
+        let words = lists::received_count(list);
         write!(out, " {words}")?;
     }
     writeln!(out)
 }
 
 // A protocol that draws has a line for each tape that it draws from and one for none, all on the same words.
-pub(crate) fn printed(
-    out: &mut impl Write,
-    code: Code,
-    generator: &mut Generator,
-) -> io::Result<()> {
+pub(crate) fn print(out: &mut impl Write, code: Code, generator: &mut Generator) -> io::Result<()> {
     if case::first_tape(code).is_none() {
         return Ok(());
     }
     let exact = Case {
         place: place(),
-        lent: cut(code, None),
-        ..case::generated(code, generator)
+        lent: lent_lengths(code, None),
+        ..case::next_case(code, generator)
     };
-    let need = row::of(code).drawn;
+    let need = code.row().drawn;
     for (tape, party) in [
         ("provider", Party::Provider),
         ("miner 1", Party::One),
@@ -78,7 +73,7 @@ pub(crate) fn printed(
     ] {
         if 0 < need.of(party) {
             let case = Case {
-                lent: cut(code, Some(party)),
+                lent: lent_lengths(code, Some(party)),
                 ..exact
             };
             let mut same = *generator;

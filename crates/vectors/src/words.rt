@@ -1,4 +1,4 @@
-// Lists of words for the cases: those of a congruential generator, or numbers in a row.
+//! Lists of words for the cases: those of a congruential generator, or numbers in a row.
 use std::array;
 
 // A generator, where it is.

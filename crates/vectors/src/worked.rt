@@ -1,8 +1,8 @@
-// Document 01's cases, and Bit at the ends of a word and past it.
+//! Cases with numbers that were reckoned by hand, and Bit at the ends of a word and past it.
 use crate::case::{Case, WHOLE_LISTS, WHOLE_TAPES};
+use crate::code::Code;
 use crate::{lists, print, words};
-use machine::code::Code;
-use machine::given::Given;
+use machine::arguments::Arguments;
 use protocols::lent::Tapes;
 use protocols::open;
 use protocols::place::Place;
@@ -11,8 +11,8 @@ use std::io;
 use std::io::Write;
 
 // A shared value, with an input, a constant or a position.
-fn with(u: [u32; 3], input: u32) -> Given {
-    Given {
+fn value_and_input(u: [u32; 3], input: u32) -> Arguments {
+    Arguments {
         input,
         u: Shares::from(u),
         v: Shares::default(),
@@ -20,10 +20,10 @@ fn with(u: [u32; 3], input: u32) -> Given {
 }
 
 // Two shared values.
-fn pair(u: [u32; 3], v: [u32; 3]) -> Given {
-    Given {
+fn pair(u: [u32; 3], v: [u32; 3]) -> Arguments {
+    Arguments {
         v: Shares::from(v),
-        ..with(u, 0)
+        ..value_and_input(u, 0)
     }
 }
 
@@ -36,7 +36,7 @@ fn value(code: Code, s: Shares) -> u32 {
 }
 
 // The miners' tapes, where the provider has none.
-fn of_miners<'a>(one: &'a [u32], two: &'a [u32], three: &'a [u32]) -> Tapes<'a> {
+fn miner_tapes<'a>(one: &'a [u32], two: &'a [u32], three: &'a [u32]) -> Tapes<'a> {
     Tapes {
         provider: &[],
         one,
@@ -46,15 +46,21 @@ fn of_miners<'a>(one: &'a [u32], two: &'a [u32], three: &'a [u32]) -> Tapes<'a> 
 }
 
 // The provider's tape, where the miners have none.
-fn of_provider(provider: &[u32]) -> Tapes<'_> {
+fn provider_tape(provider: &[u32]) -> Tapes<'_> {
     Tapes {
         provider,
-        ..of_miners(&[], &[], &[])
+        ..miner_tapes(&[], &[], &[])
     }
 }
 
 // Performs a case from an empty place record, and prints it with the value that its shares give.
-fn line(out: &mut impl Write, label: &str, code: Code, x: Given, tapes: Tapes) -> io::Result<()> {
+fn line(
+    out: &mut impl Write,
+    label: &str,
+    code: Code,
+    x: Arguments,
+    tapes: Tapes,
+) -> io::Result<()> {
     let case = Case {
         code,
         operands: x,
@@ -70,56 +76,62 @@ fn line(out: &mut impl Write, label: &str, code: Code, x: Given, tapes: Tapes) -
 }
 
 // Tapes of numbers in a row, but for the first word of miner 1's.
-fn in_a_row(out: &mut impl Write, label: &str, code: Code, x: Given, first: u32) -> io::Result<()> {
+fn line_in_a_row(
+    out: &mut impl Write,
+    label: &str,
+    code: Code,
+    x: Arguments,
+    first: u32,
+) -> io::Result<()> {
     let mut one = words::in_a_row::<18>(1);
     let two = words::in_a_row::<12>(20);
     let three = words::in_a_row::<12>(40);
     one[0] = first;
-    line(out, label, code, x, of_miners(&one, &two, &three))
+    line(out, label, code, x, miner_tapes(&one, &two, &three))
 }
 
-// M1 to M4.
+// M1 to M4: 7 and 5 are stored and multiplied, and the product is opened.
 fn session(out: &mut impl Write) -> io::Result<()> {
-    let seven = with([0, 0, 0], 7);
-    let five = with([0, 0, 0], 5);
+    let seven = value_and_input([0, 0, 0], 7);
+    let five = value_and_input([0, 0, 0], 5);
     let factors = pair([1, 2, 4], [3, 4, 4294967294]);
-    let product = with([4294967149, 4294966074, 1404], 0);
-    let masks = of_miners(&[10, 20], &[30, 40], &[50, 60]);
-    let fresh = of_miners(&[70], &[80], &[90]);
-    line(out, "M1", Code::Store, seven, of_provider(&[1, 2]))?;
-    line(out, "M2", Code::Store, five, of_provider(&[3, 4]))?;
+    let product = value_and_input([4294967149, 4294966074, 1404], 0);
+    let masks = miner_tapes(&[10, 20], &[30, 40], &[50, 60]);
+    let fresh = miner_tapes(&[70], &[80], &[90]);
+    line(out, "M1", Code::Store, seven, provider_tape(&[1, 2]))?;
+    line(out, "M2", Code::Store, five, provider_tape(&[3, 4]))?;
     line(out, "M3", Code::Multiply, factors, masks)?;
     line(out, "M4", Code::Open, product, fresh)
 }
 
-// M5 and M6, and the ends of a word. Past it commands refuse, and the protocol reads 0.
+// M5 and M6, and the ends of a word. Past it a command is refused, and the protocol reads 0.
 fn bits(out: &mut impl Write) -> io::Result<()> {
-    let no = with([1, 0, 1], 0);
-    let yes = with([0, 1, 0], 0);
+    let no = value_and_input([1, 0, 1], 0);
+    let yes = value_and_input([0, 1, 0], 0);
     let ones = [4294967295, 4294967295, 4294967295];
-    line(out, "M5", Code::Bit, no, of_miners(&[1, 5, 0], &[], &[]))?;
-    line(out, "M6", Code::Bit, yes, of_miners(&[0, 5, 0], &[], &[]))?;
-    in_a_row(out, "first", Code::Bit, with(ones, 0), 1)?;
-    in_a_row(out, "last", Code::Bit, with(ones, 31), 1)?;
-    in_a_row(out, "past", Code::Bit, with(ones, 32), 1)
+    line(out, "M5", Code::Bit, no, miner_tapes(&[1, 5, 0], &[], &[]))?;
+    line(out, "M6", Code::Bit, yes, miner_tapes(&[0, 5, 0], &[], &[]))?;
+    line_in_a_row(out, "first", Code::Bit, value_and_input(ones, 0), 1)?;
+    line_in_a_row(out, "last", Code::Bit, value_and_input(ones, 31), 1)?;
+    line_in_a_row(out, "past", Code::Bit, value_and_input(ones, 32), 1)
 }
 
-// M7 to M12.
+// M7 to M12: Bits, Equal and Below, and a product that wraps.
 fn rounds(out: &mut impl Write) -> io::Result<()> {
-    let zero = with([5, 6, 4294967285], 0);
+    let zero = value_and_input([5, 6, 4294967285], 0);
     let powers = pair([65536, 0, 0], [0, 65536, 0]);
     let most = pair([4294967295, 1, 4294967295], [1, 1, 4294967294]);
-    in_a_row(out, "M7", Code::Bits, zero, 4294967295)?;
-    in_a_row(out, "M8", Code::Equal, pair([1, 2, 4], [3, 4, 0]), 1)?;
-    in_a_row(out, "M9", Code::Equal, pair([9, 2, 3], [8, 2, 3]), 1)?;
-    in_a_row(out, "M10", Code::Multiply, powers, 1)?;
-    in_a_row(out, "M11", Code::Below, pair([0, 1, 2], [2, 2, 1]), 1)?;
-    in_a_row(out, "M11 too", Code::Below, pair([0, 1, 4], [2, 2, 1]), 1)?;
-    in_a_row(out, "M12", Code::Below, most, 1)
+    line_in_a_row(out, "M7", Code::Bits, zero, 4294967295)?;
+    line_in_a_row(out, "M8", Code::Equal, pair([1, 2, 4], [3, 4, 0]), 1)?;
+    line_in_a_row(out, "M9", Code::Equal, pair([9, 2, 3], [8, 2, 3]), 1)?;
+    line_in_a_row(out, "M10", Code::Multiply, powers, 1)?;
+    line_in_a_row(out, "M11", Code::Below, pair([0, 1, 2], [2, 2, 1]), 1)?;
+    line_in_a_row(out, "M11 too", Code::Below, pair([0, 1, 4], [2, 2, 1]), 1)?;
+    line_in_a_row(out, "M12", Code::Below, most, 1)
 }
 
-// All of them.
-pub(crate) fn printed(out: &mut impl Write) -> io::Result<()> {
+// All these cases.
+pub(crate) fn print(out: &mut impl Write) -> io::Result<()> {
     session(out)?;
     bits(out)?;
     rounds(out)

@@ -1,5 +1,5 @@
 -- One command: the shares after it combine to what the register machine holds.
-use Prim.Native.Nat.{ℕ, zero, suc, ◌+◌, ◌-◌, ◌≤◌, ◌<◌}
+use Prim.Native.Nat.{ℕ, zero, suc, ◌+◌, ◌≤◌, ◌<◌}
 use mathlib.Core.Path.{◌≡◌, refl, sym, ap, ap₂, ◌∙◌, subst, subst₂}
 use mathlib.Core.Bool.{Bool, true, false, cond, ◌&&◌, and-false}
 use mathlib.Core.List.{List, [], ◌∷◌, ◌++◌}
@@ -14,110 +14,95 @@ use lib.Pow.{pow_pos}
 use Rattle.protocols.specs.declared.place.Drawn.{Drawn}
 use Rattle.protocols.specs.declared.place.Place.{Place}
 use Rattle.protocols.specs.declared.shares.Shares.{Shares}
-use Rattle.protocols.specs.Word.{width, modulus, add, sub, mul, bit_at}
-use Rattle.protocols.specs.Shares.{Miner, one, at, each, AreWords as AreWordsOf, sum_of}
+use Rattle.protocols.specs.Word.{width, modulus}
+use Rattle.protocols.specs.Shares.{Miner, one, at, each, SharesAreWords as AreWordsOf, sum_of}
 use Rattle.protocols.specs.Place.{Tapes, Lists, Receiver, controller, list, count, block}
-use Rattle.protocols.specs.Contents.{Below as AllBelow, Contents}
-use Rattle.protocols.specs.Counts.{received, due}
+use Rattle.protocols.specs.Contents.{AllBelow, Contents}
+use Rattle.protocols.specs.Counts.{received_counts, count_for}
 use Rattle.protocols.proofs.Laws.Counts.{due-list_lengths}
 use Rattle.protocols.proofs.Laws.Blocks.{block_contents}
-use Rattle.machine.specs.declared.code.Code.{Code}
-use Rattle.machine.specs.declared.code.Code.TheVariants.{Store, Add, Subtract, AddConstant, TimesConstant, Multiply, Reshare, Bits, Bit, Equal, Open, Below}
+use Rattle.machine.specs.Table.{Code, Open, code_named, kind_number, row, opens_value, with_row}
 use Rattle.machine.specs.declared.row.Use.{Use}
 use Rattle.machine.specs.declared.row.Use.TheVariants.{Unused, Handle, Word, Position}
-use Rattle.machine.specs.declared.given.Given.{Given}
+use Rattle.machine.specs.declared.arguments.Arguments.{Arguments}
 use Rattle.machine.specs.declared.code.Command.{Command}
 use Rattle.std.specs.Prelude.{Ok}
-use Rattle.machine.specs.Table.{find, kind_number, row, opens, moved}
-use Rattle.machine.specs.Lent.{table, Lent, lent, tape_lengths, sizes, entry, shares_at, Filled, AreWords}
-use Rattle.machine.specs.Verdict.{Verdict, Accepted, Refused, number, meets, filled, verdict}
+use Rattle.machine.specs.Lent.{table, Lent, lent_lists, tape_lengths, sizes, entry, shares_at, IsFilled, LentAreWords}
+use Rattle.machine.specs.Verdict.{Verdict, Accepted, Refused, verdict_number, meets, is_filled, verdict}
 use Rattle.machine.specs.Steps.{protocol}
-use Rattle.machine.specs.Command.{Outcome, given, opened, put, with_shares, written, accepted, decided, command}
-use Rattle.machine.specs.Registers.{Register, register, Registers, registers, named, value, grown, judge, after, step, shown}
-use Rattle.machine.specs.Start.{combined, register_of, up_to, start}
+use Rattle.machine.specs.Command.{CommandOutcome, arguments, opened_word, with_entry, with_shares, with_outputs, accepted_outcome, verdict_outcome, command}
+use Rattle.machine.specs.Registers.{Register, register, Registers, registers, register_at, value, with_register, judge, next_registers, step, opened_register}
+use Rattle.machine.specs.Start.{combined_word, register_of, up_to, starting_registers}
 use Rattle.machine.specs.Run.{is_opened}
-use Rattle.machine.specs.Accept.{IfHandle}
-use Rattle.machine.specs.Claims.{Appended, New, IfAccepted, Moved, NewValue, Counts, Opened, NeverSpent, Entry2}
+use Rattle.machine.specs.Private.Accept.{IfHandle}
+use Rattle.machine.specs.Claims.{Appended, IsNew, IfAccepted, PlaceMoved, NewValue, Counts, OpenedRight, NeverSpent, CommandAgreement}
 use Rattle.protocols.proofs.Laws.Deliveries.{both}
 use Rattle.machine.proofs.Laws.Accepted.{Passed, all_passed, has_room}
-use Rattle.machine.proofs.Laws.Steps.{GivenAreWords, count-lengths, steps_counted, steps_combine, open_hands, never_lacks, performs}
-use Rattle.machine.proofs.Laws.Rows.{values_at_most_1, same_code, opens-at_11}
-use Rattle.machine.specs.Refusal.{number as refusal_number}
-use Rattle.machine.proofs.Laws.Rows.{numbered}
-use Rattle.machine.proofs.Laws.Judge.{is_filled, same-lengths, judge-same}
+use Rattle.machine.proofs.Laws.Steps.{count-lengths, open_hands, never_lacks, performs}
+use Rattle.machine.proofs.Laws.Steps.{count-lengths, open_hands}
+use Rattle.machine.proofs.Laws.Rows.{same_code, opens-at_11}
+use Rattle.machine.specs.Refusal.{refusal_number as refusal_number}
+use Rattle.machine.proofs.Laws.Rows.{refusal_number-positive}
+use Rattle.machine.proofs.Laws.Judge.{filled_is, same-lengths, judge-same}
 use Rattle.machine.proofs.Laws.Entries.{get_or-up_to, up_to-same, entry-set_old, entry-set_new, get_or-put, length-put, table-with_shares, sets_appended, list-with_words, count-plus, due-moved, below-get_or, shares_are_words, below_put, below-sets}
+use Rattle.machine.proofs.Laws.Lawful.{ArgumentsAreWords, NewHandle, lawful}
 
 -- ---- registers of filled handles, and the operands' words
 
-named_start : (n : ℕ) (p : Place) (l : Lent) (h : ℕ) → Filled p h → named (start n p l).held h ≡ register_of n l h
-unfolding start
+named_start : (n : ℕ) (p : Place) (l : Lent) (h : ℕ) → IsFilled p h → register_at (starting_registers n p l).held h ≡ register_of n l h
+unfolding starting_registers
 named_start n p l h f = get_or-up_to p.handles (register_of n l) (register 0 0) h f.0 f.1
 
 -- a register that is the one of handle h holds what the shares of h give
 register_combines : (n : ℕ) (l : Lent) (h : ℕ) (r : Register) → register_of n l h ≡ r
-    → (entry l.kinds h ≡ r.kind) × (combined (modulus n) r.kind (shares_at l.tables h) ≡ r.word)
+    → (entry l.kinds h ≡ r.kind) × (combined_word (modulus n) r.kind (shares_at l.tables h) ≡ r.word)
 register_combines n l h r e =
-    (ap (λ (q : Register). q.kind) e, subst (λ (q : Register). combined (modulus n) q.kind (shares_at l.tables h) ≡ q.word) e refl)
-
-value_same : (n : ℕ) (x : Code) (u u' v v' b input : ℕ) → IfHandle (row n x).a (u ≡ u') → IfHandle (row n x).b (v ≡ v')
-    → value n x u v b input ≡ value n x u' v' b input
-value_same n Store u u' v v' b input e f = refl
-value_same n Add u u' v v' b input e f = ap₂ (add (modulus n)) e f
-value_same n Subtract u u' v v' b input e f = ap₂ (sub (modulus n)) e f
-value_same n AddConstant u u' v v' b input e f = ap (λ (w : ℕ). add (modulus n) w b) e
-value_same n TimesConstant u u' v v' b input e f = ap (λ (w : ℕ). mul (modulus n) w b) e
-value_same n Multiply u u' v v' b input e f = ap₂ (mul (modulus n)) e f
-value_same n Reshare u u' v v' b input e f = e
-value_same n Bits u u' v v' b input e f = e
-value_same n Bit u u' v v' b input e f = ap (λ (w : ℕ). bit_at w b) e
-value_same n Equal u u' v v' b input e f = ap₂ (λ (w z : ℕ). cond (eqb w z) 1 0) e f
-value_same n Open u u' v v' b input e f = e
-value_same n Below u u' v v' b input e f = ap₂ (λ (w z : ℕ). bit_at (sub (modulus n) w z) (width n - 1)) e f
+    (ap (λ (q : Register). q.kind) e, subst (λ (q : Register). combined_word (modulus n) q.kind (shares_at l.tables h) ≡ q.word) e refl)
 
 -- a field of a command that has passed, which names a handle: its shares are words, and combine to its register's word
-operand_words : (n : ℕ) (p : Place) (l : Lent) (u : Use) (h : ℕ) → AreWords (modulus n) p l → meets u true (filled p h) true ≡ true
+operand_words : (n : ℕ) (p : Place) (l : Lent) (u : Use) (h : ℕ) → LentAreWords (modulus n) p l → meets u true (is_filled p h) true ≡ true
     → IfHandle u (AreWordsOf (modulus n) (shares_at l.tables h))
 operand_words n p l Unused h w e = tt
-operand_words n p l Handle h w e = shares_are_words (modulus n) p l h (pow_pos (width n)) (is_filled p h e) w.shares
+operand_words n p l Handle h w e = shares_are_words (modulus n) p l h (pow_pos (width n)) (filled_is p h e) w.shares
 operand_words n p l Word h w e = tt
 operand_words n p l Position h w e = tt
 
-operand_word : (n : ℕ) (p : Place) (l : Lent) (u : Use) (h k : ℕ) → meets u true (filled p h) true ≡ true
+operand_word : (n : ℕ) (p : Place) (l : Lent) (u : Use) (h k : ℕ) → meets u true (is_filled p h) true ≡ true
     → meets u true (eqb (entry l.kinds h) k) true ≡ true
-    → IfHandle u (combined (modulus n) k (shares_at l.tables h) ≡ (named (start n p l).held h).word)
+    → IfHandle u (combined_word (modulus n) k (shares_at l.tables h) ≡ (register_at (starting_registers n p l).held h).word)
 operand_word n p l Unused h k e f = tt
 operand_word n p l Handle h k e f =
-    ap (λ (j : ℕ). combined (modulus n) j (shares_at l.tables h)) (sym (eqb-true (entry l.kinds h) k f))
-    ∙ ap (λ (r : Register). r.word) (sym (named_start n p l h (is_filled p h e)))
+    ap (λ (j : ℕ). combined_word (modulus n) j (shares_at l.tables h)) (sym (eqb-true (entry l.kinds h) k f))
+    ∙ ap (λ (r : Register). r.word) (sym (named_start n p l h (filled_is p h e)))
 operand_word n p l Word h k e f = tt
 operand_word n p l Position h k e f = tt
 
 -- the shares of the handle that an open names add up to its register's word
 pub open_names : (n : ℕ) (c : Command) (p : Place) (l : Lent) → Passed n Open c p (sizes l) l.kinds
-    → sum_of (modulus n) (shares_at l.tables c.a) ≡ (named (start n p l).held c.a).word
+    → sum_of (modulus n) (shares_at l.tables c.a) ≡ (register_at (starting_registers n p l).held c.a).word
 open_names n c p l a =
-    operand_word n p l Handle c.a 1 (both (filled p c.a) true a.seven).0 (both (eqb (entry l.kinds c.a) 1) true a.eight).0
+    operand_word n p l Handle c.a 1 (both (is_filled p c.a) true a.seven).0 (both (eqb (entry l.kinds c.a) 1) true a.eight).0
 
 -- ---- one register more
 
 register-same : (n : ℕ) {k k' : ℕ} {f g : Miner → ℕ} → k ≡ k' → ((i : Miner) → f i ≡ g i)
-    → register (combined (modulus n) k (each f)) k ≡ register (combined (modulus n) k' (each g)) k'
-register-same n e h = λ i. register (combined (modulus n) (e i) (each (λ j. h j i))) (e i)
+    → register (combined_word (modulus n) k (each f)) k ≡ register (combined_word (modulus n) k' (each g)) k'
+register-same n e h = λ i. register (combined_word (modulus n) (e i) (each (λ j. h j i))) (e i)
 
 -- shares s of kind k are written behind h handles
 module _ (n : ℕ) (l : Lent) (h : ℕ) (s : Shares) (k : ℕ) (r : Lists) where
   abbrev with_value : ℕ → Lent
-  with_value v = lent (with_shares v l.tables h s) (put v l.kinds h k) l.inputs l.tapes r
+  with_value v = lent_lists (with_shares v l.tables h s) (with_entry v l.kinds h k) l.inputs l.tapes r
 
   old_register : (g : ℕ) → 1 ≤ g → g ≤ h → register_of n (with_value 1) g ≡ register_of n l g
   old_register g a b = register-same n (entry-set_old l.kinds h k g a b) (λ i. entry-set_old (table i l.tables) h (at i s) g a b)
 
   new_register : ((i : Miner) → h < length (table i l.tables)) → h < length l.kinds
-      → register_of n (with_value 1) (suc h) ≡ register (combined (modulus n) k s) k
+      → register_of n (with_value 1) (suc h) ≡ register (combined_word (modulus n) k s) k
   new_register a b = register-same n (entry-set_new l.kinds h k b) (λ i. entry-set_new (table i l.tables) h (at i s) (a i))
 
   registers_grow : (v : ℕ) → v ≤ 1 → ((i : Miner) → h + v ≤ length (table i l.tables)) → h + v ≤ length l.kinds
-      → up_to (h + v) (register_of n (with_value v)) ≡ grown v (up_to h (register_of n l)) (register (combined (modulus n) k s) k)
+      → up_to (h + v) (register_of n (with_value v)) ≡ with_register v (up_to h (register_of n l)) (register (combined_word (modulus n) k s) k)
   unfolding up_to
   registers_grow zero i a b = ap (λ (w : ℕ). up_to w (register_of n l)) (add-zero h)
   registers_grow (suc zero) i a b =
@@ -130,8 +115,8 @@ module _ (n : ℕ) (l : Lent) (h : ℕ) (s : Shares) (k : ℕ) (r : Lists) where
 
 module _ (n : ℕ) (c : Command) (p : Place) (l : Lent) (x : Code) where
   -- what the command takes, and the next words of the tapes
-  abbrev pub takes : Given
-  takes = given l.tables l.inputs p c
+  abbrev pub takes : Arguments
+  takes = arguments l.tables l.inputs p c
 
   abbrev pub draws : Tapes
   draws = block (protocol n x c.b).draws p l.tapes
@@ -145,7 +130,7 @@ module _ (n : ℕ) (c : Command) (p : Place) (l : Lent) (x : Code) where
     sends = (protocol n x c.b).received takes b
 
     abbrev pub leaves : Lent
-    leaves = written (row n x) p makes sends l
+    leaves = with_outputs (row n x) p makes sends l
 
     pub sizes-left : sizes leaves ≡ sizes l
     sizes-left =
@@ -159,11 +144,11 @@ module _ (n : ℕ) (c : Command) (p : Place) (l : Lent) (x : Code) where
           kinds = length-put v l.kinds p.handles (kind_number (row n x).kind) i;
           inputs = length l.inputs;
           tapes = tape_lengths l.tapes;
-          received = received (length-sets r.one p.received.one sends.one i) (length-sets r.two p.received.two sends.two i)
+          received = received_counts (length-sets r.one p.received.one sends.one i) (length-sets r.two p.received.two sends.two i)
               (length-sets r.three p.received.three sends.three i) (length-sets r.controller p.received.controller sends.controller i);
         }
 
-    pub table-left : (i : Miner) → table i leaves.tables ≡ put (row n x).values (table i l.tables) p.handles (at i makes)
+    pub table-left : (i : Miner) → table i leaves.tables ≡ with_entry (row n x).values (table i l.tables) p.handles (at i makes)
     table-left i = table-with_shares i (row n x).values l.tables p.handles makes
 
   module _ (a : Passed n x c p (sizes l) l.kinds) where
@@ -174,17 +159,17 @@ module _ (n : ℕ) (c : Command) (p : Place) (l : Lent) (x : Code) where
     fits = omega (arith, (has_room a).handles, same one)
 
     -- the words sent stand behind those that each list held
-    pub appended : (b : Tapes) (r : Receiver) → Appended (list r l.received) (due r p.received) (list r (sends b)) (list r (leaves b).received)
+    pub appended : (b : Tapes) (r : Receiver) → Appended (list r l.received) (count_for r p.received) (list r (sends b)) (list r (leaves b).received)
     appended b r =
         list-with_words r l.received p (sends b)
-        ∙ sets_appended (list r l.received) (due r p.received) (list r (sends b))
-        (omega (arith, (has_room a).received r, due-list_lengths r l.received, (steps_counted n x c.b).long takes b r))
+        ∙ sets_appended (list r l.received) (count_for r p.received) (list r (sends b))
+        (omega (arith, (has_room a).received r, due-list_lengths r l.received, ((lawful x).counted n c.b).long takes b r))
 
-  module _ (w : AreWords (modulus n) p l) (a : Passed n x c p (sizes l) l.kinds) where
-    filled_fields : (meets (row n x).a true (filled p c.a) true ≡ true) × (meets (row n x).b true (filled p c.b) true ≡ true)
-    filled_fields = both (meets (row n x).a true (filled p c.a) true) (meets (row n x).b true (filled p c.b) true) a.seven
+  module _ (w : LentAreWords (modulus n) p l) (a : Passed n x c p (sizes l) l.kinds) where
+    filled_fields : (meets (row n x).a true (is_filled p c.a) true ≡ true) × (meets (row n x).b true (is_filled p c.b) true ≡ true)
+    filled_fields = both (meets (row n x).a true (is_filled p c.a) true) (meets (row n x).b true (is_filled p c.b) true) a.seven
 
-    pub given_are_words : GivenAreWords n x takes
+    pub given_are_words : ArgumentsAreWords n x takes
     given_are_words = (
       below-get_or (modulus n) l.inputs p.inputs (pow_pos (width n)) w.inputs,
       operand_words n p l (row n x).a c.a w filled_fields.0,
@@ -193,56 +178,56 @@ module _ (n : ℕ) (c : Command) (p : Place) (l : Lent) (x : Code) where
 
     drawn-words : Contents (modulus n) (protocol n x c.b).draws draws
     drawn-words =
-        subst (λ (d : Drawn). Contents (modulus n) d (block d p l.tapes)) (sym (steps_counted n x c.b).drawn)
+        subst (λ (d : Drawn). Contents (modulus n) d (block d p l.tapes)) (sym ((lawful x).counted n c.b).drawn)
         (block_contents (modulus n) (row n x).drawn p l.tapes w.tapes (λ i. omega (arith, (has_room a).drawn i, count-lengths i l.tapes)))
 
     module _ (b : Tapes) (h : Contents (modulus n) (protocol n x c.b).draws b) where
-      pub words_left : AreWords (modulus n) (moved p (row n x)) (leaves b)
+      pub words_left : LentAreWords (modulus n) (with_row p (row n x)) (leaves b)
       words_left = record {
         shares = λ i. subst (λ (t : List ℕ). AllBelow (modulus n) (take (p.handles + (row n x).values) t)) (sym (table-left b i))
-            (below_put (modulus n) (row n x).values (table i l.tables) p.handles (at i (makes b)) (values_at_most_1 n x)
-            (omega (arith, fits a, same a i)) (w.shares i) ((steps_counted n x c.b).made takes given_are_words b h i));
+            (below_put (modulus n) (row n x).values (table i l.tables) p.handles (at i (makes b)) ((lawful x).one_value n)
+            (omega (arith, fits a, same a i)) (w.shares i) (((lawful x).counted n c.b).made takes given_are_words b h i));
         inputs = w.inputs;
         tapes = w.tapes;
         received = λ r. subst₂ (λ (k : ℕ) (t : List ℕ). AllBelow (modulus n) (take k t)) (sym (due-moved r p (row n x)))
             (sym (list-with_words r l.received p (sends b)))
-            (below-sets (modulus n) (list r l.received) (due r p.received) (list r (sends b)) (due r (row n x).received)
-            ((steps_counted n x c.b).long takes b r) (omega (arith, (has_room a).received r, due-list_lengths r l.received))
-            (w.received r) ((steps_counted n x c.b).delivered takes given_are_words b h r).below);
+            (below-sets (modulus n) (list r l.received) (count_for r p.received) (list r (sends b)) (count_for r (row n x).received)
+            (((lawful x).counted n c.b).long takes b r) (omega (arith, (has_room a).received r, due-list_lengths r l.received))
+            (w.received r) (((lawful x).counted n c.b).delivered takes given_are_words b h r).below);
       }
 
       -- the new shares give the register machine's value
-      new_word : combined (modulus n) (kind_number (row n x).kind) (makes b)
-          ≡ value n x (named (start n p l).held c.a).word (named (start n p l).held c.b).word c.b (get_or l.inputs p.inputs 0)
+      new_word : combined_word (modulus n) (kind_number (row n x).kind) (makes b)
+          ≡ value n x (register_at (starting_registers n p l).held c.a).word (register_at (starting_registers n p l).held c.b).word c.b (get_or l.inputs p.inputs 0)
       new_word =
           let y = row n x in
           let k = l.kinds in
           let g = both (meets y.a true (eqb (entry k c.a) (kind_number y.operands)) true) (meets y.b true (eqb (entry k c.b) (kind_number y.operands)) true) a.eight in
-          steps_combine n x c.b takes b given_are_words h
-          ∙ value_same n x _ _ _ _ c.b (get_or l.inputs p.inputs 0) (operand_word n p l y.a c.a (kind_number y.operands) filled_fields.0 g.0)
+          (lawful x).combines n c.b takes b given_are_words h
+          ∙ (lawful x).same_value n _ _ _ _ c.b (get_or l.inputs p.inputs 0) (operand_word n p l y.a c.a (kind_number y.operands) filled_fields.0 g.0)
           (operand_word n p l y.b c.b (kind_number y.operands) filled_fields.1 g.1)
 
       -- the registers that the shares stand for are those of the register machine after the command
-      pub start_left : start n (moved p (row n x)) (leaves b) ≡ after n (Accepted x) c l.inputs (start n p l)
-      unfolding start
-      start_left = λ i. registers (held i) (moved p (row n x))
+      pub start_left : starting_registers n (with_row p (row n x)) (leaves b) ≡ next_registers n (Accepted x) c l.inputs (starting_registers n p l)
+      unfolding starting_registers
+      start_left = λ i. registers (held i) (with_row p (row n x))
         where
-          held : up_to (p.handles + (row n x).values) (register_of n (leaves b)) ≡ (after n (Accepted x) c l.inputs (start n p l)).held
+          held : up_to (p.handles + (row n x).values) (register_of n (leaves b)) ≡ (next_registers n (Accepted x) c l.inputs (starting_registers n p l)).held
           held =
-              registers_grow n l p.handles (makes b) (kind_number (row n x).kind) (leaves b).received (row n x).values (values_at_most_1 n x)
+              registers_grow n l p.handles (makes b) (kind_number (row n x).kind) (leaves b).received (row n x).values ((lawful x).one_value n)
               (λ i. omega (arith, fits a, same a i)) (fits a)
-              ∙ ap (λ (u : ℕ). grown (row n x).values (start n p l).held (register u (kind_number (row n x).kind))) new_word
+              ∙ ap (λ (u : ℕ). with_register (row n x).values (starting_registers n p l).held (register u (kind_number (row n x).kind))) new_word
 
 -- ---- a command, accepted or refused
 
 -- what it leaves as it was; the laws `-by` go by the verdict
-record Kept (n : ℕ) (p : Place) (l : Lent) (o : Outcome) : Type 0 where
-  tables_kept : (i : Miner) (k : ℕ) → ¬ New p o.answer.place k → get_or (table i o.lent.tables) k 0 ≡ get_or (table i l.tables) k 0
-  kinds_kept : (k : ℕ) → ¬ New p o.answer.place k → get_or o.lent.kinds k 0 ≡ get_or l.kinds k 0
+record Kept (n : ℕ) (p : Place) (l : Lent) (o : CommandOutcome) : Type 0 where
+  tables_kept : (i : Miner) (k : ℕ) → ¬ IsNew p o.answer.place k → get_or (table i o.lent.tables) k 0 ≡ get_or (table i l.tables) k 0
+  kinds_kept : (k : ℕ) → ¬ IsNew p o.answer.place k → get_or o.lent.kinds k 0 ≡ get_or l.kinds k 0
   inputs_kept : o.lent.inputs ≡ l.inputs
   tapes_kept : o.lent.tapes ≡ l.tapes
   sizes_kept : sizes o.lent ≡ sizes l
-  words : AreWords (modulus n) o.answer.place o.lent
+  words : LentAreWords (modulus n) o.answer.place o.lent
 
 module _ (n : ℕ) (c : Command) (p : Place) (l : Lent) where
   abbrev decision : Verdict
@@ -251,64 +236,64 @@ module _ (n : ℕ) (c : Command) (p : Place) (l : Lent) where
   pub has_passed : (x : Code) → decision ≡ Accepted x → Passed n x c p (sizes l) l.kinds
   has_passed x = all_passed n x c p (sizes l) l.kinds
 
-  command_accepts : (x : Code) → decision ≡ Accepted x → command n c p l ≡ accepted n x c p l
+  command_accepts : (x : Code) → decision ≡ Accepted x → command n c p l ≡ accepted_outcome n x c p l
   unfolding command
-  command_accepts x e = ap (λ (v : Verdict). decided n v c p l) e
+  command_accepts x e = ap (λ (v : Verdict). verdict_outcome n v c p l) e
 
-  number-decided : (v : Verdict) → (decided n v c p l).answer.number ≡ number v
-  unfolding accepted
+  number-decided : (v : Verdict) → (verdict_outcome n v c p l).answer.number ≡ verdict_number v
+  unfolding accepted_outcome
   number-decided (Accepted x) = refl
   number-decided (Refused r) = refl
 
-  pub code_opens : (x : Code) → decision ≡ Accepted x → eqb c.code 11 ≡ opens (row n x)
+  pub code_opens : (x : Code) → decision ≡ Accepted x → eqb c.code 11 ≡ opens_value (row n x)
   code_opens x e = opens-at_11 n c.code x (has_passed x e).known
 
   -- a command that its code word names, answered 0
-  accepted_by : (v : Verdict) → decision ≡ v → (x : Code) → find c.code ≡ Ok x → number v ≡ 0 → decision ≡ Accepted x
+  accepted_by : (v : Verdict) → decision ≡ v → (x : Code) → code_named c.code ≡ Ok x → verdict_number v ≡ 0 → decision ≡ Accepted x
   accepted_by (Accepted y) e x f z = e ∙ ap Accepted (same_code (has_passed y e).known f)
-  accepted_by (Refused r) e x f z = absurd (omega (arith, z, numbered r))
+  accepted_by (Refused r) e x f z = absurd (omega (arith, z, refusal_number-positive r))
 
   pub is_accepted : (x : Code) → IfAccepted n c p l x (decision ≡ Accepted x)
   unfolding command
   is_accepted x f z = accepted_by decision refl x f (sym (number-decided decision) ∙ z)
 
   -- it moves the place record on by its row
-  moved_by : (x : Code) → decision ≡ Accepted x → Moved n c p l x
-  unfolding accepted
+  moved_by : (x : Code) → decision ≡ Accepted x → PlaceMoved n c p l x
+  unfolding accepted_outcome
   moved_by x e =
-      let q = ap (λ (o : Outcome). o.answer.place) (command_accepts x e) in
+      let q = ap (λ (o : CommandOutcome). o.answer.place) (command_accepts x e) in
       record {
         handles = ap (λ (q : Place). q.handles) q;
         inputs = ap (λ (q : Place). q.inputs) q;
         drawn = λ i. ap (λ (q : Place). count i q.drawn) q ∙ count-plus i p.drawn (row n x).drawn;
-        received = λ r. ap (λ (q : Place). due r q.received) q ∙ due-moved r p (row n x);
+        received = λ r. ap (λ (q : Place). count_for r q.received) q ∙ due-moved r p (row n x);
       }
 
   -- each list has the words of its protocol more
   appended_by : (x : Code) → decision ≡ Accepted x → (r : Receiver)
-      → Appended (list r l.received) (due r p.received) (list r (sends n c p l x (draws n c p l x))) (list r (command n c p l).lent.received)
-  unfolding accepted
-  appended_by x e r = ap (λ (o : Outcome). list r o.lent.received) (command_accepts x e) ∙ appended n c p l x (has_passed x e) (draws n c p l x) r
+      → Appended (list r l.received) (count_for r p.received) (list r (sends n c p l x (draws n c p l x))) (list r (command n c p l).lent.received)
+  unfolding accepted_outcome
+  appended_by x e r = ap (λ (o : CommandOutcome). list r o.lent.received) (command_accepts x e) ∙ appended n c p l x (has_passed x e) (draws n c p l x) r
 
   -- and what it draws and delivers is its row's
   pub counted_by : (x : Code) → decision ≡ Accepted x → Counts n c p l x
-  counted_by x e = let f = steps_counted n x c.b in record {
+  counted_by x e = let f = (lawful x).counted n c.b in record {
     drawn = f.drawn;
-    long = f.long (takes n c p l x) (draws n c p l x);
-    grown = appended_by x e;
+    received = f.long (takes n c p l x) (draws n c p l x);
+    gain = appended_by x e;
   }
 
   accepts_open : (x : Code) → decision ≡ Accepted x → c.code ≡ 11 → decision ≡ Accepted Open
-  accepts_open x e f = e ∙ ap Accepted (same_code (has_passed x e).known (ap find f))
+  accepts_open x e f = e ∙ ap Accepted (same_code (has_passed x e).known (ap code_named f))
 
-  not_opened_by : (v : Verdict) → decision ≡ v → ¬ (c.code ≡ 11) → (decided n v c p l).answer.opened ≡ 0
-  unfolding accepted
+  not_opened_by : (v : Verdict) → decision ≡ v → ¬ (c.code ≡ 11) → (verdict_outcome n v c p l).answer.opened ≡ 0
+  unfolding accepted_outcome
   not_opened_by (Accepted x) e f = ap (λ (b : Bool). cond b (sum_of (modulus n) (makes n c p l x (draws n c p l x))) 0) (sym (code_opens x e) ∙ ne_eqb c.code 11 f)
   not_opened_by (Refused r) e f = refl
 
-  module _ (w : AreWords (modulus n) p l) where
-    kept_by : (v : Verdict) → decision ≡ v → Kept n p l (decided n v c p l)
-    unfolding accepted
+  module _ (w : LentAreWords (modulus n) p l) where
+    kept_by : (v : Verdict) → decision ≡ v → Kept n p l (verdict_outcome n v c p l)
+    unfolding accepted_outcome
     kept_by (Accepted x) e = record {
       tables_kept = λ i k h. ap (λ (t : List ℕ). get_or t k 0) (table-left n c p l x (draws n c p l x) i)
           ∙ get_or-put (row n x).values (table i l.tables) p.handles (at i (makes n c p l x (draws n c p l x))) k h;
@@ -320,15 +305,9 @@ module _ (n : ℕ) (c : Command) (p : Place) (l : Lent) where
     }
     kept_by (Refused r) e = record { tables_kept = λ i k h. refl; kinds_kept = λ k h. refl; inputs_kept = refl; tapes_kept = refl; sizes_kept = refl; words = w }
 
-    -- the new handle, where a value is due, has its row's kind, and holds its row's value of what the operands' shares
-    -- combine to
-    new_handle : (x : Code) → decision ≡ Accepted x → (row n x).values ≡ 1
-        → let k = kind_number (row n x).kind in
-        let operand : ℕ → ℕ = λ h. combined (modulus n) (kind_number (row n x).operands) (shares_at l.tables h) in
-        let o = command n c p l in
-        (entry o.lent.kinds (p.handles + 1) ≡ k)
-        × (combined (modulus n) k (shares_at o.lent.tables (p.handles + 1)) ≡ value n x (operand c.a) (operand c.b) c.b (get_or l.inputs p.inputs 0))
-    unfolding accepted
+    -- the new handle, where a value is due
+    new_handle : (x : Code) → decision ≡ Accepted x → (row n x).values ≡ 1 → NewHandle n c p l x
+    unfolding accepted_outcome
     new_handle x e one_due =
         let a = has_passed x e in
         let b = draws n c p l x in
@@ -336,93 +315,82 @@ module _ (n : ℕ) (c : Command) (p : Place) (l : Lent) where
         let k = kind_number (row n x).kind in
         let r = (leaves n c p l x b).received in
         let h : p.handles + 1 ≤ length l.kinds = omega (arith, fits n c p l x a, one_due) in
-        let is : register_of n (command n c p l).lent (p.handles + 1) ≡ register (combined (modulus n) k s) k =
-        ap (λ (o : Outcome). register_of n o.lent (p.handles + 1)) (command_accepts x e)
+        let is : register_of n (command n c p l).lent (p.handles + 1) ≡ register (combined_word (modulus n) k s) k =
+        ap (λ (o : CommandOutcome). register_of n o.lent (p.handles + 1)) (command_accepts x e)
         ∙ ap (λ (v : ℕ). register_of n (with_value n l p.handles s k r v) (p.handles + 1)) one_due
         ∙ ap (register_of n (with_value n l p.handles s k r 1)) (add-one p.handles)
         ∙ new_register n l p.handles s k r (λ i. omega (arith, h, same n c p l x a i)) (omega (arith, h)) in
-        let t = register_combines n (command n c p l).lent (p.handles + 1) (register (combined (modulus n) k s) k) is in
-        (t.0, t.1 ∙ steps_combine n x c.b (takes n c p l x) b (given_are_words n c p l x w a) (drawn-words n c p l x w a))
+        let t = register_combines n (command n c p l).lent (p.handles + 1) (register (combined_word (modulus n) k s) k) is in
+        (t.0, t.1 ∙ (lawful x).combines n c.b (takes n c p l x) b (given_are_words n c p l x w a) (drawn-words n c p l x w a))
 
     new_value : (x : Code) → decision ≡ Accepted x → NewValue n c p l x
-    new_value Store e = new_handle Store e refl
-    new_value Add e = new_handle Add e refl
-    new_value Subtract e = new_handle Subtract e refl
-    new_value AddConstant e = new_handle AddConstant e refl
-    new_value TimesConstant e = new_handle TimesConstant e refl
-    new_value Multiply e = new_handle Multiply e refl
-    new_value Reshare e = new_handle Reshare e refl
-    new_value Bits e = new_handle Bits e refl
-    new_value Bit e = new_handle Bit e refl
-    new_value Equal e = new_handle Equal e refl
-    new_value Open e = tt
-    new_value Below e = new_handle Below e refl
+    new_value x e = (lawful x).new_value n c p l (new_handle x e)
 
     -- the registers
-    start_by : (v : Verdict) → decision ≡ v → start n (decided n v c p l).answer.place (decided n v c p l).lent ≡ after n v c l.inputs (start n p l)
-    unfolding accepted
+    start_by : (v : Verdict) → decision ≡ v → starting_registers n (verdict_outcome n v c p l).answer.place (verdict_outcome n v c p l).lent ≡ next_registers n v c l.inputs (starting_registers n p l)
+    unfolding accepted_outcome
     start_by (Accepted x) e = start_left n c p l x w (has_passed x e) (draws n c p l x) (drawn-words n c p l x w (has_passed x e))
     start_by (Refused r) e = refl
 
-    pub start-after : start n (command n c p l).answer.place (command n c p l).lent ≡ step n c (sizes l) l.inputs (start n p l)
+    pub start-after : starting_registers n (command n c p l).answer.place (command n c p l).lent ≡ step n c (sizes l) l.inputs (starting_registers n p l)
     unfolding command step
-    start-after = start_by decision refl ∙ ap (λ (v : Verdict). after n v c l.inputs (start n p l)) (sym (judge-same n c p l))
+    start-after = start_by decision refl ∙ ap (λ (v : Verdict). next_registers n v c l.inputs (starting_registers n p l)) (sym (judge-same n c p l))
 
     -- the opened word
-    accepted_open : decision ≡ Accepted Open → Opened n c p l
-    unfolding accepted
+    accepted_open : decision ≡ Accepted Open → OpenedRight n c p l
+    unfolding accepted_outcome
     accepted_open e =
         let a = has_passed Open e in
         let is_held_lem = new_word n c p l Open w a (draws n c p l Open) (drawn-words n c p l Open w a) in
         record {
           shares = makes n c p l Open (draws n c p l Open);
-          handed = subst (λ (s : List ℕ). Appended l.received.controller p.received.controller s (command n c p l).lent.received.controller)
+          to_controller = subst (λ (s : List ℕ). Appended l.received.controller p.received.controller s (command n c p l).lent.received.controller)
               (open_hands n c.b (takes n c p l Open) (draws n c p l Open)) (appended_by Open e controller);
           add_up = is_held_lem;
-          told = ap (λ (o : Outcome). o.answer.opened) (command_accepts Open e) ∙ is_held_lem;
+          answer = ap (λ (o : CommandOutcome). o.answer.opened) (command_accepts Open e) ∙ is_held_lem;
         }
 
-    opened_by : (v : Verdict) → decision ≡ v → c.code ≡ 11 → number v ≡ 0 → Opened n c p l
+    opened_by : (v : Verdict) → decision ≡ v → c.code ≡ 11 → verdict_number v ≡ 0 → OpenedRight n c p l
     opened_by (Accepted x) e f k = accepted_open (accepts_open x e f)
-    opened_by (Refused r) e f k = absurd (omega (arith, k, numbered r))
+    opened_by (Refused r) e f k = absurd (omega (arith, k, refusal_number-positive r))
 
     shown_by : (v : Verdict) → decision ≡ v
-        → cond (is_opened c (decided n v c p l).answer) ((decided n v c p l).answer.opened ∷ []) [] ≡ shown n v c (start n p l)
-    unfolding accepted
-    shown_by (Accepted x) e = by_code (eqb c.code 11) refl ∙ ap (λ (b : Bool). cond b ((named (start n p l).held c.a).word ∷ []) []) (code_opens x e)
+        → cond (is_opened c (verdict_outcome n v c p l).answer) ((verdict_outcome n v c p l).answer.opened ∷ []) [] ≡ opened_register n v c (starting_registers n p l)
+    unfolding accepted_outcome
+    shown_by (Accepted x) e = by_code (eqb c.code 11) refl ∙ ap (λ (b : Bool). cond b ((register_at (starting_registers n p l).held c.a).word ∷ []) []) (code_opens x e)
       where
         by_code : (b : Bool) → eqb c.code 11 ≡ b
-            → cond (b && true) (opened n (row n x) (makes n c p l x (draws n c p l x)) ∷ []) [] ≡ cond b ((named (start n p l).held c.a).word ∷ []) []
+            → cond (b && true) (opened_word n (row n x) (makes n c p l x (draws n c p l x)) ∷ []) [] ≡ cond b ((register_at (starting_registers n p l).held c.a).word ∷ []) []
         by_code true f = ap (λ (u : ℕ). u ∷ [])
-            (ap (λ (o : Outcome). o.answer.opened) (sym (command_accepts x e)) ∙ (accepted_open (accepts_open x e (eqb-true c.code 11 f))).told)
+            (ap (λ (o : CommandOutcome). o.answer.opened) (sym (command_accepts x e)) ∙ (accepted_open (accepts_open x e (eqb-true c.code 11 f))).answer)
         by_code false f = refl
     shown_by (Refused r) e =
-        ap (λ (b : Bool). cond (eqb c.code 11 && b) (0 ∷ []) []) (ne_eqb (refusal_number r) 0 (λ f. omega (arith, f, numbered r)))
+        ap (λ (b : Bool). cond (eqb c.code 11 && b) (0 ∷ []) []) (ne_eqb (refusal_number r) 0 (λ f. omega (arith, f, refusal_number-positive r)))
         ∙ ap (λ (b : Bool). cond b (0 ∷ []) []) (and-false (eqb c.code 11))
 
-    pub shown-after : cond (is_opened c (command n c p l).answer) ((command n c p l).answer.opened ∷ []) [] ≡ shown n (judge n c (sizes l) (start n p l)) c (start n p l)
+    pub shown-after : cond (is_opened c (command n c p l).answer) ((command n c p l).answer.opened ∷ []) [] ≡ opened_register n (judge n c (sizes l) (starting_registers n p l)) c (starting_registers n p l)
     unfolding command
-    shown-after = shown_by decision refl ∙ ap (λ (v : Verdict). shown n v c (start n p l)) (sym (judge-same n c p l))
+    shown-after = shown_by decision refl ∙ ap (λ (v : Verdict). opened_register n v c (starting_registers n p l)) (sym (judge-same n c p l))
 
 -- the protocol of an accepted command is done, wherever the other counts of the place record stand
 pub never_spent : (n : ℕ) (c : Command) (p : Place) (l : Lent) → NeverSpent n c p l
 never_spent n c p l x f z q same =
-    performs n x c.b (given l.tables l.inputs p c) p q l.tapes same (never_lacks n x c p l (has_passed n c p l x (is_accepted n c p l x f z)))
+    performs n x c.b (arguments l.tables l.inputs p c) p q l.tapes same (never_lacks n x c p l (has_passed n c p l x (is_accepted n c p l x f z)))
 
--- ---- entry 2
+-- ---- agreement
 
-pub entry_2 : (n : ℕ) (c : Command) (p : Place) (l : Lent) → AreWords (modulus n) p l → Entry2 n c p l
-unfolding command start
-entry_2 n c p l w =
+pub command_agreement : (n : ℕ) (c : Command) (p : Place) (l : Lent) → LentAreWords (modulus n) p l → CommandAgreement n c p l
+unfolding command starting_registers
+command_agreement n c p l w =
     let v = decision n c p l in
     let o = command n c p l in
     let k = kept_by n c p l w v refl in
     record {
-      same_number = number-decided n c p l v ∙ ap number (sym (judge-same n c p l));
+      same_number = number-decided n c p l v ∙ ap verdict_number (sym (judge-same n c p l));
       same_place = ap (λ (m : Registers). m.place) (start-after n c p l w);
-      combine = λ h f. register_combines n o.lent h (named (step n c (sizes l) l.inputs (start n p l)).held h)
-          (sym (named_start n o.answer.place o.lent h f) ∙ ap (λ (m : Registers). named m.held h) (start-after n c p l w));
-      moved = λ x f z. moved_by n c p l x (is_accepted n c p l x f z);
+      combine = λ h f. register_combines n o.lent h (register_at (step n c (sizes l) l.inputs (starting_registers n p l)).held h)
+          (sym (named_start n o.answer.place o.lent h f) ∙ ap (λ (m : Registers). register_at m.held h) (start-after n c p l w));
+      place_counts = λ x f z. moved_by n c p l x (is_accepted n c p l x f z);
       value = λ x f z. new_value n c p l w x (is_accepted n c p l x f z);
       counts = λ x f z. counted_by n c p l x (is_accepted n c p l x f z);
       opened = λ f e. opened_by n c p l w v refl f (sym (number-decided n c p l v) ∙ e);

@@ -3,17 +3,17 @@ use Rattle.std.proofs.Common.{◌≡◌, ℕ, List, take, refl, sym, ap, subst, 
 use Rattle.protocols.specs.declared.place.Party.{Party}
 use Rattle.protocols.specs.declared.place.Party.TheVariants.{Provider, One, Two, Three}
 use Rattle.protocols.specs.declared.place.Place.{Place}
-use Rattle.protocols.specs.Place.{Tapes, rest, Lists, Receiver, list}
-use Rattle.protocols.specs.Counts.{due}
-use Rattle.protocols.specs.Parties.{Connected, connected, connect, for_party}
+use Rattle.protocols.specs.Place.{Tapes, rest, Lists, list}
+use Rattle.protocols.specs.Counts.{count_for}
+use Rattle.protocols.specs.Parties.{Connection, connection, connect, for_party}
 use Rattle.protocols.specs.Alone.{alone, sends_of, Agree}
 use Rattle.protocols.proofs.Laws.Apart.Alone.{by_itself}
 use Rattle.machine.specs.declared.code.Command.{Command}
 use Rattle.machine.specs.declared.lent.Sizes.{Sizes}
 use Rattle.machine.specs.Lent.{Lent, sizes}
-use Rattle.machine.specs.Run.{Ran, run, run_to_refusal}
+use Rattle.machine.specs.Run.{run, run_to_refusal}
 use Rattle.machine.specs.Claims.{Appended}
-use Rattle.machine.specs.Apart.{own_part, Programs, started, ComesTo, Apart, RunsApart}
+use Rattle.machine.specs.Apart.{own_part, Programs, process_of, ComesTo, HasPrograms, RunsApart}
 use Rattle.machine.proofs.Laws.Blind.Public.{place_at_end, kinds_at_end, replies_to, tried}
 use Rattle.machine.proofs.Laws.Blind.RunProtocol.{run_protocol, with_tapes, run_follows}
 use Rattle.machine.proofs.Laws.Blind.Refusal.{run-to}
@@ -33,15 +33,15 @@ own_part-with_tapes Two t l = refl
 own_part-with_tapes Three t l = refl
 
 -- what the four come to, where they are connected, each comes to by itself, and no other words agree with the four
-abbrev Settled : Programs → Place → Lent → Connected (List ℕ) → Type 0
+abbrev Settled : Programs → Place → Lent → Connection (List ℕ) → Type 0
 Settled P p l c =
-    ((i : Party) → alone (List ℕ) P.rounds i c.sent (started P p l i) (for_party i c.received)
-    ≡ record { ends = c.ends i; sends = sends_of (List ℕ) P.rounds (started P p l) i })
-    × ((w : Lists) → Agree (List ℕ) P.rounds c.sent (started P p l) w → w ≡ c.received)
+    ((i : Party) → alone (List ℕ) P.rounds i c.sent (process_of P p l i) (for_party i c.received)
+    ≡ record { ends = c.ends i; sends = sends_of (List ℕ) P.rounds (process_of P p l) i })
+    × ((w : Lists) → Agree (List ℕ) P.rounds c.sent (process_of P p l) w → w ≡ c.received)
 
-settled : (P : Programs) (p : Place) (l : Lent) (c : Connected (List ℕ))
-    → connect P.rounds (started P p l) ≡ c → Settled P p l c
-settled P p l c e = let law = by_itself P.rounds (started P p l) in subst (Settled P p l) e (law.alike, law.only)
+settled : (P : Programs) (p : Place) (l : Lent) (c : Connection (List ℕ))
+    → connect P.rounds (process_of P p l) ≡ c → Settled P p l c
+settled P p l c e = let law = by_itself P.rounds (process_of P p l) in subst (Settled P p l) e (law.alike, law.only)
 
 -- ---- past refusals
 
@@ -69,14 +69,14 @@ comes_to n cs p z k l e f =
     let follows = run_follows n cs p z k l l.tapes e f in
     let then_own : (i : Party) → own_part i (F.result l b) ≡ own_part i now =
     λ i. own_part-with_tapes i l.tapes (F.result l b) ∙ sym (ap (own_part i) follows.leaves-lent) in
-    let c = connected (λ i. own_part i now) w P.timetable in
-    let plays : connect P.rounds (started P p l) ≡ c =
-    (commands_apart n cs p z k).plays l b ∙ (λ j. connected (λ i. then_own i j) w P.timetable) in
+    let c = connection (λ i. own_part i now) w P.timetable in
+    let plays : connect P.rounds (process_of P p l) ≡ c =
+    (commands_apart n cs p z k).plays l b ∙ (λ j. connection (λ i. then_own i j) w P.timetable) in
     record {
       words = w;
       plays = plays;
-      grown = λ r.
-          subst (λ (m : Lent). Appended (list r l.received) (due r p.received) (list r w) (list r m.received))
+      gain = λ r.
+          subst (λ (m : Lent). Appended (list r l.received) (count_for r p.received) (list r w) (list r m.received))
           (sym follows.leaves-lent) (commands_appended n cs p z k l b e f r);
       replies = follows.answers;
       place = follows.ends;
@@ -86,13 +86,13 @@ comes_to n cs p z k l e f =
       only = (settled P p l c plays).1;
     }
 
-run_apart : (n : ℕ) (cs : List Command) (p : Place) (z : Sizes) (k : List ℕ) → Apart (run n cs) p z k
+run_apart : (n : ℕ) (cs : List Command) (p : Place) (z : Sizes) (k : List ℕ) → HasPrograms (run n cs) p z k
 run_apart n cs p z k = (programs n cs p z k, comes_to n cs p z k)
 
 -- ---- up to the first refused command, which is public
 
 pub run_apart_to_refusal : (n : ℕ) (cs : List Command) (p : Place) (z : Sizes) (k : List ℕ)
-    → Apart (run_to_refusal n cs) p z k
+    → HasPrograms (run_to_refusal n cs) p z k
 run_apart_to_refusal n cs p z k =
     let ds = take (tried n cs p z k) cs in
     let P = programs n ds p z k in

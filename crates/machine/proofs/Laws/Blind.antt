@@ -1,9 +1,8 @@
--- Entry 3, from the blindness of the protocols.
-pub mod Steps
+-- Blindness of commands and runs, from the blindness of the protocols.
 pub mod Public
 pub mod RunProtocol
 pub mod Run
 pub mod Pairs
-pub mod Entry
+pub mod Runs
 pub mod Refusal
 pub mod Records

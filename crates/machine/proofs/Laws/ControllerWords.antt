@@ -12,22 +12,21 @@ use Rattle.protocols.specs.declared.place.Place.{Place}
 use Rattle.protocols.specs.Word.{modulus}
 use Rattle.protocols.specs.Shares.{sum_of}
 use Rattle.protocols.specs.Place.{controller, in_order}
-use Rattle.machine.specs.declared.code.Code.{Code}
-use Rattle.machine.specs.declared.code.Code.TheVariants.{Open}
+use Rattle.machine.specs.Table.{Code, Open, code_named, row, opens_value}
 use Rattle.machine.specs.declared.code.Command.{Command}
-use Rattle.machine.specs.Table.{find, row, opens}
 use Rattle.machine.specs.Lent.{Lent, sizes, received_words}
 use Rattle.machine.specs.Verdict.{Verdict, Accepted, Refused, verdict}
-use Rattle.machine.specs.Command.{Outcome, accepted, decided, command}
-use Rattle.machine.specs.Run.{Ran, ran, before, run_to_refusal, is_opened, sums_in_threes}
+use Rattle.machine.specs.Command.{CommandOutcome, accepted_outcome, verdict_outcome, command}
+use Rattle.machine.specs.Run.{RunResult, run_result, after_command, run_to_refusal, is_opened, sums_in_threes}
 use Rattle.machine.specs.Claims.{AddsUp}
 use Rattle.machine.proofs.Laws.Accepted.{has_room}
-use Rattle.machine.specs.Refusal.{number as refusal_number}
-use Rattle.machine.proofs.Laws.Rows.{numbered}
+use Rattle.machine.specs.Refusal.{refusal_number as refusal_number}
+use Rattle.machine.proofs.Laws.Rows.{refusal_number-positive}
 use Rattle.machine.proofs.Laws.Rows.{same_code}
-use Rattle.machine.proofs.Laws.Steps.{steps_counted, open_hands}
+use Rattle.machine.proofs.Laws.Steps.{open_hands}
 use Rattle.machine.proofs.Laws.ToRefusal.{no_answers, opened-first}
 use Rattle.machine.proofs.Laws.Agree.{takes, draws, makes, sends, appended, has_passed, code_opens}
+use Rattle.machine.proofs.Laws.Lawful.{lawful}
 
 -- the controller's list has the words w more, and its count keeps within it
 record Gained (p : Place) (l : Lent) (q : Place) (r : Lent) (w : List ℕ) : Type 0 where
@@ -63,10 +62,10 @@ module _ (n : ℕ) (c : Command) (p : Place) (l : Lent) where
     sent = (sends n c p l x (draws n c p l x)).controller
 
     long : length sent ≡ (row n x).received.controller
-    long = (steps_counted n x c.b).long (takes n c p l x) (draws n c p l x) controller
+    long = ((lawful x).counted n c.b).long (takes n c p l x) (draws n c p l x) controller
 
-    gains : Gained p l (decided n (Accepted x) c p l).answer.place (decided n (Accepted x) c p l).lent sent
-    unfolding accepted
+    gains : Gained p l (verdict_outcome n (Accepted x) c p l).answer.place (verdict_outcome n (Accepted x) c p l).lent sent
+    unfolding accepted_outcome
     gains =
         let at = p.received.controller in
         let held = l.received.controller in
@@ -81,16 +80,16 @@ module _ (n : ℕ) (c : Command) (p : Place) (l : Lent) where
         }
 
     -- the words that it opens, and then those that are opened after it
-    adds_up : (w : List ℕ) → let o = (decided n (Accepted x) c p l).answer in
+    adds_up : (w : List ℕ) → let o = (verdict_outcome n (Accepted x) c p l).answer in
         cond (is_opened c o) (o.opened ∷ []) [] ++ sums_in_threes (modulus n) w ≡ sums_in_threes (modulus n) (sent ++ w)
-    unfolding accepted sums_in_threes
+    unfolding accepted_outcome sums_in_threes
     adds_up w = by_code (eqb c.code 11) refl
       where
         by_code : (b : Bool) → eqb c.code 11 ≡ b → let s = sum_of (modulus n) (makes n c p l x (draws n c p l x)) in
-            cond (b && true) (cond (opens (row n x)) s 0 ∷ []) [] ++ sums_in_threes (modulus n) w ≡ sums_in_threes (modulus n) (sent ++ w)
+            cond (b && true) (cond (opens_value (row n x)) s 0 ∷ []) [] ++ sums_in_threes (modulus n) w ≡ sums_in_threes (modulus n) (sent ++ w)
         by_code true f =
             let s = sum_of (modulus n) (makes n c p l x (draws n c p l x)) in
-            let is_open : x ≡ Open = same_code (has_passed n c p l x e).known (ap find (eqb-true c.code 11 f)) in
+            let is_open : x ≡ Open = same_code (has_passed n c p l x e).known (ap code_named (eqb-true c.code 11 f)) in
             ap (λ (b : Bool). cond b s 0 ∷ sums_in_threes (modulus n) w) (sym (code_opens n c p l x e) ∙ f)
             ∙ ap (λ (t : List ℕ). sums_in_threes (modulus n) (t ++ w)) (sym (hands n c p l x is_open))
         by_code false f =
@@ -100,18 +99,18 @@ module _ (n : ℕ) (c : Command) (p : Place) (l : Lent) where
   -- ---- any command
 
   -- it has the words s for the controller
-  record Step (o : Outcome) : Type 0 where
+  record Step (o : CommandOutcome) : Type 0 where
     s : List ℕ
     gained : Gained p l o.answer.place o.lent s
     opened : (w : List ℕ) → cond (is_opened c o.answer) (o.answer.opened ∷ []) [] ++ sums_in_threes (modulus n) w ≡ sums_in_threes (modulus n) (s ++ w)
 
-  step_by : (v : Verdict) → decision ≡ v → Step (decided n v c p l)
+  step_by : (v : Verdict) → decision ≡ v → Step (verdict_outcome n v c p l)
   step_by (Accepted x) e = record { s = sent x e; gained = gains x e; opened = adds_up x e }
   step_by (Refused r) e = record {
     s = [];
     gained = nothing_gained p l;
     opened = λ w. ap (λ (b : Bool). cond b (0 ∷ []) [] ++ sums_in_threes (modulus n) w)
-        (ap (λ (b : Bool). eqb c.code 11 && b) (ne_eqb (refusal_number r) 0 (λ f. omega (arith, f, numbered r))) ∙ and-false (eqb c.code 11));
+        (ap (λ (b : Bool). eqb c.code 11 && b) (ne_eqb (refusal_number r) 0 (λ f. omega (arith, f, refusal_number-positive r))) ∙ and-false (eqb c.code 11));
   }
 
   step : Step (command n c p l)
@@ -120,9 +119,9 @@ module _ (n : ℕ) (c : Command) (p : Place) (l : Lent) where
 
   -- ---- a run
 
-  run_by : (cs : List Command) (b : Bool) (r : Ran) → let o = command n c p l in
+  run_by : (cs : List Command) (b : Bool) (r : RunResult) → let o = command n c p l in
       AddsUp (modulus n) cs o.answer.place o.lent r
-      → AddsUp (modulus n) (c ∷ cs) p l (cond b (before o r) (before o (ran [] o.answer.place o.lent)))
+      → AddsUp (modulus n) (c ∷ cs) p l (cond b (after_command o r) (after_command o (run_result [] o.answer.place o.lent)))
   run_by cs true r t =
       let f = step in
       let a = (command n c p l).answer in

@@ -13,15 +13,15 @@ use Rattle.protocols.specs.declared.place.Party.TheVariants.{Provider, One, Two,
 use Rattle.protocols.specs.declared.place.Drawn.{Drawn}
 use Rattle.protocols.specs.declared.place.Place.{Place}
 use Rattle.protocols.specs.declared.shares.Shares.{Shares}
-use Rattle.protocols.specs.Shares.{Miner, one, two, three, at, AreWords}
+use Rattle.protocols.specs.Shares.{Miner, one, two, three, at, SharesAreWords}
 use Rattle.protocols.specs.Place.{count, plus, Lists, Receiver, miner, controller, list}
-use Rattle.protocols.specs.Contents.{Below}
-use Rattle.protocols.specs.Counts.{due}
+use Rattle.protocols.specs.Contents.{AllBelow}
+use Rattle.protocols.specs.Counts.{count_for}
 use Rattle.machine.specs.declared.row.Row.{Row}
-use Rattle.machine.specs.Table.{moved}
-use Rattle.machine.specs.Lent.{Tables, Lent, table, entry, shares_at, Filled, filled_shares}
+use Rattle.machine.specs.Table.{with_row}
+use Rattle.machine.specs.Lent.{Tables, Lent, table, entry, shares_at, IsFilled, filled_shares}
 use Rattle.protocols.proofs.Laws.Blocks.{below-append}
-use Rattle.machine.specs.Command.{put, with_shares, with_words}
+use Rattle.machine.specs.Command.{with_entry, with_shares, with_received}
 use Rattle.machine.specs.Start.{up_to}
 
 -- ---- f 1 to f k
@@ -71,15 +71,15 @@ entry-set_old l k w h i j = get_or-set_other l k (h - 1) w 0 (omega arith)
 pub entry-set_new : (l : List ℕ) (k w : ℕ) → k < length l → entry (set l k w) (suc k) ≡ w
 entry-set_new l k w h = ap (λ (i : ℕ). get_or (set l k w) i 0) (omega arith) ∙ get_or-set_same l k w 0 h
 
-pub get_or-put : (v : ℕ) (l : List ℕ) (k w i : ℕ) → ¬ ((k ≤ i) × (i < k + v)) → get_or (put v l k w) i 0 ≡ get_or l i 0
+pub get_or-put : (v : ℕ) (l : List ℕ) (k w i : ℕ) → ¬ ((k ≤ i) × (i < k + v)) → get_or (with_entry v l k w) i 0 ≡ get_or l i 0
 get_or-put zero l k w i h = refl
 get_or-put (suc v) l k w i h = get_or-set_other l k i w 0 (λ e. h (omega (arith, e)))
 
-pub length-put : (v : ℕ) (l : List ℕ) (k w : ℕ) → length (put v l k w) ≡ length l
+pub length-put : (v : ℕ) (l : List ℕ) (k w : ℕ) → length (with_entry v l k w) ≡ length l
 length-put zero l k w = refl
 length-put (suc v) l k w = length-set l k w
 
-pub table-with_shares : (i : Miner) (v : ℕ) (t : Tables) (k : ℕ) (s : Shares) → table i (with_shares v t k s) ≡ put v (table i t) k (at i s)
+pub table-with_shares : (i : Miner) (v : ℕ) (t : Tables) (k : ℕ) (s : Shares) → table i (with_shares v t k s) ≡ with_entry v (table i t) k (at i s)
 table-with_shares one v t k s = refl
 table-with_shares two v t k s = refl
 table-with_shares three v t k s = refl
@@ -89,7 +89,7 @@ table-with_shares three v t k s = refl
 pub sets_appended : (l : List ℕ) (k : ℕ) (s : List ℕ) → k + length s ≤ length l → sets l k s ≡ take k l ++ (s ++ drop (k + length s) l)
 sets_appended l k s h = sets-eq s l k h ∙ append_assoc (take k l) s (drop (k + length s) l)
 
-pub list-with_words : (r : Receiver) (l : Lists) (p : Place) (s : Lists) → list r (with_words l p s) ≡ sets (list r l) (due r p.received) (list r s)
+pub list-with_words : (r : Receiver) (l : Lists) (p : Place) (s : Lists) → list r (with_received l p s) ≡ sets (list r l) (count_for r p.received) (list r s)
 list-with_words (miner one) l p s = refl
 list-with_words (miner two) l p s = refl
 list-with_words (miner three) l p s = refl
@@ -101,7 +101,7 @@ count-plus One a b = refl
 count-plus Two a b = refl
 count-plus Three a b = refl
 
-pub due-moved : (r : Receiver) (p : Place) (x : Row) → due r (moved p x).received ≡ due r p.received + due r x.received
+pub due-moved : (r : Receiver) (p : Place) (x : Row) → count_for r (with_row p x).received ≡ count_for r p.received + count_for r x.received
 due-moved (miner one) p x = refl
 due-moved (miner two) p x = refl
 due-moved (miner three) p x = refl
@@ -110,32 +110,32 @@ due-moved controller p x = refl
 -- ---- every word is below m
 
 module _ (m : ℕ) where
-  pub below-get_or : (l : List ℕ) (i : ℕ) → 0 < m → Below m l → get_or l i 0 < m
+  pub below-get_or : (l : List ℕ) (i : ℕ) → 0 < m → AllBelow m l → get_or l i 0 < m
   below-get_or [] i h b = h
   below-get_or (x ∷ l) zero h b = b.0
   below-get_or (x ∷ l) (suc i) h b = below-get_or l i h b.1
 
-  below-filled : (l : List ℕ) (k i : ℕ) → 0 < m → i < k → Below m (take k l) → get_or l i 0 < m
+  below-filled : (l : List ℕ) (k i : ℕ) → 0 < m → i < k → AllBelow m (take k l) → get_or l i 0 < m
   below-filled [] k i h j b = h
   below-filled (x ∷ l) zero i h j b = absurd (omega arith)
   below-filled (x ∷ l) (suc k) zero h j b = b.0
   below-filled (x ∷ l) (suc k) (suc i) h j b = below-filled l k i h (omega arith) b.1
 
-  pub shares_are_words : (p : Place) (l : Lent) (h : ℕ) → 0 < m → Filled p h → ((i : Miner) → Below m (filled_shares p l i)) → AreWords m (shares_at l.tables h)
+  pub shares_are_words : (p : Place) (l : Lent) (h : ℕ) → 0 < m → IsFilled p h → ((i : Miner) → AllBelow m (filled_shares p l i)) → SharesAreWords m (shares_at l.tables h)
   shares_are_words p l h k f b one = below-filled l.tables.one p.handles (h - 1) k (omega (arith, f)) (b one)
   shares_are_words p l h k f b two = below-filled l.tables.two p.handles (h - 1) k (omega (arith, f)) (b two)
   shares_are_words p l h k f b three = below-filled l.tables.three p.handles (h - 1) k (omega (arith, f)) (b three)
 
   -- one entry more is filled, or none
-  pub below_put : (v : ℕ) (l : List ℕ) (k w : ℕ) → v ≤ 1 → k + v ≤ length l → Below m (take k l) → w < m → Below m (take (k + v) (put v l k w))
-  below_put zero l k w i h b c = subst (λ (j : ℕ). Below m (take j l)) (sym (add-zero k)) b
+  pub below_put : (v : ℕ) (l : List ℕ) (k w : ℕ) → v ≤ 1 → k + v ≤ length l → AllBelow m (take k l) → w < m → AllBelow m (take (k + v) (with_entry v l k w))
+  below_put zero l k w i h b c = subst (λ (j : ℕ). AllBelow m (take j l)) (sym (add-zero k)) b
   below_put (suc zero) l k w i h b c =
-      subst (Below m) (sym (ap (λ (j : ℕ). take j (set l k w)) (add-one k) ∙ take-suc-set l k w (omega arith))) (below-append m (take k l) (w ∷ []) b (c, tt))
+      subst (AllBelow m) (sym (ap (λ (j : ℕ). take j (set l k w)) (add-one k) ∙ take-suc-set l k w (omega arith))) (below-append m (take k l) (w ∷ []) b (c, tt))
   below_put (suc (suc v)) l k w i h b c = absurd (omega arith)
 
   -- words more are filled
-  pub below-sets : (l : List ℕ) (k : ℕ) (s : List ℕ) (j : ℕ) → length s ≡ j → k + j ≤ length l → Below m (take k l) → Below m s → Below m (take (k + j) (sets l k s))
-  below-sets l k s j e h b c = subst (Below m) (sym filled) (below-append m (take k l) s b c)
+  pub below-sets : (l : List ℕ) (k : ℕ) (s : List ℕ) (j : ℕ) → length s ≡ j → k + j ≤ length l → AllBelow m (take k l) → AllBelow m s → AllBelow m (take (k + j) (sets l k s))
+  below-sets l k s j e h b c = subst (AllBelow m) (sym filled) (below-append m (take k l) s b c)
     where
       long : length (take k l ++ s) ≡ k + j
       long = length-append (take k l) s ∙ omega (arith, length-take-le k l (omega (arith, h)), e)

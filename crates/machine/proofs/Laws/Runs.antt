@@ -9,21 +9,21 @@ use Rattle.protocols.specs.declared.place.Place.{Place}
 use Rattle.protocols.specs.Place.{Tapes, Lists}
 use Rattle.machine.specs.declared.code.Command.{Command}
 use Rattle.machine.specs.declared.answer.Answer.{Answer}
-use Rattle.machine.specs.Lent.{Lent, lent}
+use Rattle.machine.specs.Lent.{Lent, lent_lists}
 use Rattle.machine.specs.Command.{command}
-use Rattle.machine.specs.Start.{start}
-use Rattle.machine.specs.Run.{Ran, ran, before, run, run_to_refusal, accepted, refused_with, is_opened, opened_words}
+use Rattle.machine.specs.Start.{starting_registers}
+use Rattle.machine.specs.Run.{RunResult, run_result, after_command, run, run_to_refusal, accepted_count, refused_number, is_opened, opened_words}
 
 -- ---- past refusals
 
 -- a run, and then the command c
-abbrev pub and_then : ℕ → Ran → Command → Ran
-and_then n r c = let o = command n c r.place r.lent in ran (r.answers ++ (o.answer ∷ [])) o.answer.place o.lent
+abbrev pub and_then : ℕ → RunResult → Command → RunResult
+and_then n r c = let o = command n c r.place r.lent in run_result (r.answers ++ (o.answer ∷ [])) o.answer.place o.lent
 
 pub run_last : (n : ℕ) (cs : List Command) (c : Command) (p : Place) (l : Lent) → run n (cs ++ (c ∷ [])) p l ≡ and_then n (run n cs p l) c
 unfolding run
 run_last n [] c p l = refl
-run_last n (d ∷ cs) c p l = let o = command n d p l in ap (before o) (run_last n cs c o.answer.place o.lent)
+run_last n (d ∷ cs) c p l = let o = command n d p l in ap (after_command o) (run_last n cs c o.answer.place o.lent)
 
 pub length-answers : (n : ℕ) (cs : List Command) (p : Place) (l : Lent) → length (run n cs p l).answers ≡ length cs
 unfolding run
@@ -32,32 +32,32 @@ length-answers n (c ∷ cs) p l = let o = command n c p l in ap suc (length-answ
 
 -- ---- to the first refused command
 
-pub to_refusal_none : (n : ℕ) (p : Place) (l : Lent) → run_to_refusal n [] p l ≡ ran [] p l
+pub to_refusal_none : (n : ℕ) (p : Place) (l : Lent) → run_to_refusal n [] p l ≡ run_result [] p l
 unfolding run_to_refusal
 to_refusal_none n p l = refl
 
 pub to_refusal-first : (n : ℕ) (c : Command) (cs : List Command) (p : Place) (l : Lent) → let o = command n c p l in
     run_to_refusal n (c ∷ cs) p l
-    ≡ cond (eqb o.answer.number 0) (before o (run_to_refusal n cs o.answer.place o.lent)) (before o (ran [] o.answer.place o.lent))
+    ≡ cond (eqb o.answer.number 0) (after_command o (run_to_refusal n cs o.answer.place o.lent)) (after_command o (run_result [] o.answer.place o.lent))
 unfolding run_to_refusal
 to_refusal-first n c cs p l = refl
 
 -- ---- commands done, and the number of a refused one
 
-pub accepted_none : accepted [] ≡ 0
-unfolding accepted
+pub accepted_none : accepted_count [] ≡ 0
+unfolding accepted_count
 accepted_none = refl
 
-pub accepted_next : (a : Answer) (l : List Answer) → accepted (a ∷ l) ≡ cond (eqb a.number 0) (suc (accepted l)) 0
-unfolding accepted
+pub accepted_next : (a : Answer) (l : List Answer) → accepted_count (a ∷ l) ≡ cond (eqb a.number 0) (suc (accepted_count l)) 0
+unfolding accepted_count
 accepted_next a l = refl
 
-pub refused_none : refused_with [] ≡ 0
-unfolding refused_with
+pub refused_none : refused_number [] ≡ 0
+unfolding refused_number
 refused_none = refl
 
-pub refused_next : (a : Answer) (l : List Answer) → refused_with (a ∷ l) ≡ cond (eqb a.number 0) (refused_with l) a.number
-unfolding refused_with
+pub refused_next : (a : Answer) (l : List Answer) → refused_number (a ∷ l) ≡ cond (eqb a.number 0) (refused_number l) a.number
+unfolding refused_number
 refused_next a l = refl
 
 -- ---- the words opened
@@ -71,6 +71,6 @@ opened_next c cs a l = refl
 
 -- nothing but tables and kinds counts
 pub start_by_tables : (n : ℕ) (p : Place) (l : Lent) (inputs : List ℕ) (t : Tapes) (r : Lists)
-    → start n p (lent l.tables l.kinds inputs t r) ≡ start n p l
-unfolding start
+    → starting_registers n p (lent_lists l.tables l.kinds inputs t r) ≡ starting_registers n p l
+unfolding starting_registers
 start_by_tables n p l inputs t r = refl

@@ -11,28 +11,27 @@ use Rattle.protocols.specs.declared.place.Place.{Place}
 use Rattle.protocols.specs.declared.place.Party.TheVariants.{Provider, One, Two, Three}
 use Rattle.protocols.specs.Shares.{Miner, one, two, three}
 use Rattle.protocols.specs.Place.{count, miner, controller}
-use Rattle.protocols.specs.Counts.{due}
+use Rattle.protocols.specs.Counts.{count_for}
 use Rattle.protocols.proofs.Laws.Counts.{due-list_lengths}
 use Rattle.machine.specs.declared.code.Command.{Command}
-use Rattle.machine.specs.declared.code.Code.{Code}
+use Rattle.machine.specs.Table.{Code, kind_number, row}
 use Rattle.machine.specs.declared.kind.Kind.{Kind}
 use Rattle.machine.specs.declared.kind.Kind.TheVariants.{RingValue, BitWord}
 use Rattle.machine.specs.declared.lent.Sizes.{Sizes}
-use Rattle.machine.specs.Table.{kind_number, row}
-use Rattle.machine.specs.Lent.{Lent, sizes, table, entry, Filled}
-use Rattle.machine.specs.Verdict.{Verdict, Accepted, Refused, verdict, sound}
-use Rattle.machine.specs.Command.{put, command}
-use Rattle.machine.specs.Run.{run, empty}
-use Rattle.machine.specs.Refusals.{Counter, handles, inputs, drawn, received, counted, list_length, Applies, lengths_differ, place_beyond, no_kind}
+use Rattle.machine.specs.Lent.{Lent, sizes, table, entry, IsFilled}
+use Rattle.machine.specs.Verdict.{Verdict, Accepted, Refused, verdict, is_sound}
+use Rattle.machine.specs.Command.{with_entry, command}
+use Rattle.machine.specs.Run.{run, empty_place}
+use Rattle.machine.specs.Refusals.{Counter, handles, inputs, drawn, received, counter_value, list_length, Applies, lengths_differ, place_beyond, no_kind}
 use Rattle.machine.proofs.Laws.Tests.{not_where, holds_where, NoKind}
 use Rattle.protocols.proofs.Laws.Deliveries.{both}
 use Rattle.machine.proofs.Laws.Accepted.{all_passed, Room, has_room}
-use Rattle.machine.proofs.Laws.Rows.{values_at_most_1}
 use Rattle.machine.proofs.Laws.Refusals.{bounds, test_4}
 use Rattle.machine.proofs.Laws.Judge.{same-lengths}
 use Rattle.machine.proofs.Laws.Entries.{entry-set_old, entry-set_new, due-moved}
 use Rattle.machine.proofs.Laws.Steps.{count-lengths}
 use Rattle.machine.proofs.Laws.Blind.Public.{place_after, kinds_after, command_public}
+use Rattle.machine.proofs.Laws.Lawful.{lawful}
 
 -- ---- lengths, told by the sizes
 
@@ -50,7 +49,7 @@ abbrev size : Counter → Sizes → ℕ
 size handles z = z.one
 size inputs z = z.inputs
 size (drawn i) z = count i z.tapes
-size (received r) z = due r z.received
+size (received r) z = count_for r z.received
 
 list_size : (k : Counter) (l : Lent) → list_length k l ≡ size k (sizes l)
 list_size handles l = refl
@@ -65,7 +64,7 @@ has_number RingValue h = h.0 refl
 has_number BitWord h = h.1 refl
 
 -- a handle with no kind, after a value of the kind w is written behind k handles, had none before
-had_none : (v : ℕ) (l : List ℕ) (k w h : ℕ) → v ≤ 1 → k + v ≤ length l → ¬ NoKind w → 1 ≤ h → h ≤ k + v → NoKind (entry (put v l k w) h)
+had_none : (v : ℕ) (l : List ℕ) (k w h : ℕ) → v ≤ 1 → k + v ≤ length l → ¬ NoKind w → 1 ≤ h → h ≤ k + v → NoKind (entry (with_entry v l k w) h)
     → (h ≤ k) × NoKind (entry l h)
 had_none zero l k w h i fits good a b e = (omega arith, e)
 had_none (suc zero) l k w h i fits good a b e = by_place (eq-or-lt_of_le b)
@@ -84,7 +83,7 @@ module _ (n : ℕ) (c : Command) (p : Place) (l : Lent) where
   abbrev decision : Verdict
   decision = verdict n c p (sizes l) l.kinds
 
-  counted-moved : (x : Code) (k : Counter) → Room (row n x) p (sizes l) → counted k (place_after n (Accepted x) p) ≤ size k (sizes l)
+  counted-moved : (x : Code) (k : Counter) → Room (row n x) p (sizes l) → counter_value k (place_after n (Accepted x) p) ≤ size k (sizes l)
   counted-moved x handles a = a.handles
   counted-moved x inputs a = a.inputs
   counted-moved x (drawn Provider) a = a.drawn Provider
@@ -93,15 +92,15 @@ module _ (n : ℕ) (c : Command) (p : Place) (l : Lent) where
   counted-moved x (drawn Three) a = a.drawn Three
   counted-moved x (received r) a = omega (arith, due-moved r p (row n x), a.received r)
 
-  beyond_before : (v : Verdict) → decision ≡ v → (k : Counter) → size k (sizes l) < counted k (place_after n v p) → Applies n c p l 4
+  beyond_before : (v : Verdict) → decision ≡ v → (k : Counter) → size k (sizes l) < counter_value k (place_after n v p) → Applies n c p l 4
   beyond_before (Accepted x) e k h = absurd (omega (arith, counted-moved x k (has_room (all_passed n x c p (sizes l) l.kinds e))))
   beyond_before (Refused r) e k h = place_beyond k (omega (arith, list_size k l))
 
-  kind-before : (v : Verdict) → decision ≡ v → (h : ℕ) → Filled (place_after n v p) h → NoKind (entry (kinds_after n v p l.kinds) h) → Applies n c p l 4
+  kind-before : (v : Verdict) → decision ≡ v → (h : ℕ) → IsFilled (place_after n v p) h → NoKind (entry (kinds_after n v p l.kinds) h) → Applies n c p l 4
   kind-before (Accepted x) e h f g =
       let a = all_passed n x c p (sizes l) l.kinds e in
       let same = same-lengths l (both _ _ a.four).0 one in
-      let t = had_none (row n x).values l.kinds p.handles (kind_number (row n x).kind) h (values_at_most_1 n x) (omega (arith, (has_room a).handles, same))
+      let t = had_none (row n x).values l.kinds p.handles (kind_number (row n x).kind) h ((lawful x).one_value n) (omega (arith, (has_room a).handles, same))
       (has_number (row n x).kind) f.0 f.1 g in
       no_kind h (f.0, t.0) t.1.0 t.1.1
   kind-before (Refused r) e h f g = no_kind h f g.0 g.1
@@ -116,10 +115,10 @@ module _ (n : ℕ) (c : Command) (p : Place) (l : Lent) where
       let o = command n c p l in
       let q = command_public n c p l (sizes l) l.kinds refl refl in
       beyond_before decision refl k
-      (omega (arith, h, list_size k o.lent, ap (size k) q.same-sizes, ap (counted k) q.same_place))
+      (omega (arith, h, list_size k o.lent, ap (size k) q.same-sizes, ap (counter_value k) q.same_place))
   applied_before d (no_kind h f g i) =
       let q = command_public n c p l (sizes l) l.kinds refl refl in
-      kind-before decision refl h (subst (λ (r : Place). Filled r h) q.same_place f)
+      kind-before decision refl h (subst (λ (r : Place). IsFilled r h) q.same_place f)
       (subst (λ (k : List ℕ). NoKind (entry k h)) q.same-kinds (g, i))
 
 pub stays_sound : (n : ℕ) (c d : Command) (p : Place) (l : Lent)
@@ -127,8 +126,8 @@ pub stays_sound : (n : ℕ) (c d : Command) (p : Place) (l : Lent)
 stays_sound n c d p l none h = none (applied_before n c p l d h)
 
 -- the same of its test
-pub sound-after : (n : ℕ) (c : Command) (p : Place) (l : Lent) → sound p (sizes l) l.kinds ≡ true → let o = command n c p l in
-    sound o.answer.place (sizes o.lent) o.lent.kinds ≡ true
+pub sound-after : (n : ℕ) (c : Command) (p : Place) (l : Lent) → is_sound p (sizes l) l.kinds ≡ true → let o = command n c p l in
+    is_sound o.answer.place (sizes o.lent) o.lent.kinds ≡ true
 sound-after n c p l e =
     let o = command n c p l in
     holds_where (test_4 n c o.answer.place o.lent) (stays_sound n c c p l (not_where (test_4 n c p l) e))
@@ -148,7 +147,7 @@ above_4 n c p l r none h =
 
 -- ---- at the empty place
 
-none_counted : (k : Counter) → counted k empty ≡ 0
+none_counted : (k : Counter) → counter_value k empty_place ≡ 0
 none_counted handles = refl
 none_counted inputs = refl
 none_counted (drawn Provider) = refl
@@ -160,7 +159,7 @@ none_counted (received (miner two)) = refl
 none_counted (received (miner three)) = refl
 none_counted (received controller) = refl
 
-pub sound-at-empty : (n : ℕ) (c : Command) (l : Lent) → ((i : Miner) → length (table i l.tables) ≡ length l.kinds) → ¬ Applies n c empty l 4
+pub sound-at-empty : (n : ℕ) (c : Command) (l : Lent) → ((i : Miner) → length (table i l.tables) ≡ length l.kinds) → ¬ Applies n c empty_place l 4
 sound-at-empty n c l same (lengths_differ i h) = h (same i)
 sound-at-empty n c l same (place_beyond k h) = omega (arith, h, none_counted k)
 sound-at-empty n c l same (no_kind h f g i) = omega (arith, f.0, f.1)

@@ -14,11 +14,11 @@ use Rattle.protocols.specs.declared.place.Party.{Party}
 use Rattle.protocols.specs.declared.place.Party.TheVariants.{Provider, One, Two, Three}
 use Rattle.protocols.specs.declared.place.Place.{Place}
 use Rattle.protocols.specs.Shares.{Miner, one, two, three}
-use Rattle.protocols.specs.Place.{every, Receiver, miner, controller}
+use Rattle.protocols.specs.Place.{every_party, Receiver, miner, controller}
 use Rattle.machine.specs.declared.row.Use.{Use}
 use Rattle.machine.specs.declared.row.Use.TheVariants.{Unused, Handle, Word, Position}
-use Rattle.machine.specs.Lent.{Filled}
-use Rattle.machine.specs.Verdict.{every_list, are_kinds, meets, filled}
+use Rattle.machine.specs.Lent.{IsFilled}
+use Rattle.machine.specs.Verdict.{every_receiver, are_kinds, meets, is_filled}
 use Rattle.machine.specs.Refusals.{Field, a, b}
 
 -- the test of the index holds where not P
@@ -115,7 +115,7 @@ some_miner {P} d = same_as to (λ s. from s.0 s.1) (and (d one) (λ n. and (d tw
     from two h = inr (inl h)
     from three h = inr (inr h)
 
-pub some_tape : (f g : Party → ℕ) → Decides ((i : Party) × (g i < f i)) (every (λ i. leb (f i) (g i)))
+pub some_tape : (f g : Party → ℕ) → Decides ((i : Party) × (g i < f i)) (every_party (λ i. leb (f i) (g i)))
 some_tape f g = same_as to (λ s. from s.0 s.1) (four (at Provider) (at One) (at Two) (at Three))
   where
     Short : Party → Type 0
@@ -136,7 +136,7 @@ some_tape f g = same_as to (λ s. from s.0 s.1) (four (at Provider) (at One) (at
     from Two h = inr (inr (inl h))
     from Three h = inr (inr (inr h))
 
-pub some_list : (f g : Receiver → ℕ) → Decides ((r : Receiver) × (g r < f r)) (every_list (λ r. leb (f r) (g r)))
+pub some_list : (f g : Receiver → ℕ) → Decides ((r : Receiver) × (g r < f r)) (every_receiver (λ r. leb (f r) (g r)))
 some_list f g = same_as to (λ s. from s.0 s.1) (four (at (miner one)) (at (miner two)) (at (miner three)) (at controller))
   where
     Short : Receiver → Type 0
@@ -196,15 +196,15 @@ if_position Position d = used d
 
 -- ---- handles and kinds
 
-pub by_filled : (p : Place) (h : ℕ) → Decides (¬ Filled p h) (filled p h)
+pub by_filled : (p : Place) (h : ℕ) → Decides (¬ IsFilled p h) (is_filled p h)
 by_filled p h = go (by_lt 0 h) (by_le h p.handles)
   where
-    go : {s t : Bool} → Decides (h ≤ 0) s → Decides (p.handles < h) t → Decides (¬ Filled p h) (s && t)
+    go : {s t : Bool} → Decides (h ≤ 0) s → Decides (p.handles < h) t → Decides (¬ IsFilled p h) (s && t)
     go (holds f) (holds g) = holds (λ n. n (omega arith))
     go (holds f) (fails g) = fails (λ k. omega arith)
     go (fails f) d = fails (λ k. omega arith)
 
-pub stable_filled : (p : Place) (h : ℕ) → ¬ ¬ Filled p h → Filled p h
+pub stable_filled : (p : Place) (h : ℕ) → ¬ ¬ IsFilled p h → IsFilled p h
 stable_filled p h n =
     let not-zero : ¬ (h < 1) = λ g. n (λ f. omega arith) in
     let not-above : ¬ (p.handles < h) = λ g. n (λ f. omega arith) in

@@ -6,7 +6,7 @@ use native.Mathlib.Omega.{arith}
 use lib.ListN.{length, get_or, take}
 use Rattle.std.specs.Simd.{first_chunks}
 use Rattle.machine.specs.declared.code.Command.{Command}
-use Rattle.machine.specs.Table.{command}
+use Rattle.machine.specs.Table.{command_of}
 use Rattle.protocols.specs.Shares.{shares, sum_of}
 use Rattle.machine.specs.Run.{commands_of, sums_in_threes}
 
@@ -14,7 +14,7 @@ use Rattle.machine.specs.Run.{commands_of, sums_in_threes}
 
 -- a command's three words
 abbrev pub of_words : List ℕ → Command
-of_words w = command (get_or w 0 0) (get_or w 1 0) (get_or w 2 0)
+of_words w = command_of (get_or w 0 0) (get_or w 1 0) (get_or w 2 0)
 
 three_more : (n : ℕ) → suc (suc (suc n)) / 3 ≡ suc (n / 3)
 three_more n = omega arith
@@ -25,7 +25,7 @@ unfolding commands_of
 commands_cut [] = refl
 commands_cut (x ∷ []) = refl
 commands_cut (x ∷ y ∷ []) = refl
-commands_cut (x ∷ y ∷ z ∷ l) = rw (three_more (length l)) (ap (λ (cs : List Command). command x y z ∷ cs) (commands_cut l))
+commands_cut (x ∷ y ∷ z ∷ l) = rw (three_more (length l)) (ap (λ (cs : List Command). command_of x y z ∷ cs) (commands_cut l))
 
 three_times : (k : ℕ) → 3 * suc k ≡ suc (suc (suc (3 * k)))
 three_times k = omega arith
@@ -37,7 +37,7 @@ commands_taken zero l = refl
 commands_taken (suc k) [] = rw (three_times k)
 commands_taken (suc k) (x ∷ []) = rw (three_times k)
 commands_taken (suc k) (x ∷ y ∷ []) = rw (three_times k)
-commands_taken (suc k) (x ∷ y ∷ z ∷ l) = rw (three_times k) (ap (λ (cs : List Command). command x y z ∷ cs) (commands_taken k l))
+commands_taken (suc k) (x ∷ y ∷ z ∷ l) = rw (three_times k) (ap (λ (cs : List Command). command_of x y z ∷ cs) (commands_taken k l))
 
 -- three words each, and no more than there are
 pub commands_fit : (l : List ℕ) → 3 * length (commands_of l) ≤ length l

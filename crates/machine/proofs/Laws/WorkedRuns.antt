@@ -1,6 +1,6 @@
 -- The worked runs, by computation: all definitions on which a run stands are opened here, those of the protocols too.
 use mathlib.Core.Path.{refl}
-use Rattle.protocols.specs.Word.{add, sub, mul, bit_at, of_bits, up}
+use Rattle.protocols.specs.Word.{add, sub, mul, bit_at, of_bits, shift_up}
 use Rattle.protocols.specs.Shares.{sum_of}
 use Rattle.protocols.specs.Place.{block}
 use Rattle.protocols.specs.Protocol.{◌then◌}
@@ -9,17 +9,17 @@ use Rattle.protocols.specs.Reshare.{reshare}
 use Rattle.protocols.specs.Multiply.{multiply}
 use Rattle.protocols.specs.Bit.{bit}
 use Rattle.protocols.specs.Bits.{deal, exchange, source, round_s, round_p, round, rounds, bits}
-use Rattle.protocols.specs.Equal.{compare, begin, fold_share, fold, folds, equal}
+use Rattle.protocols.specs.Equal.{compare, first_masks, fold_share, fold, folds, equal}
 use Rattle.protocols.specs.Open.{opening}
 use Rattle.protocols.specs.Below.{below}
-use Rattle.machine.specs.Verdict.{judged, verdict}
+use Rattle.machine.specs.Verdict.{row_verdict, verdict}
 use Rattle.machine.specs.Steps.{protocol}
-use Rattle.machine.specs.Command.{accepted, command}
+use Rattle.machine.specs.Command.{accepted_outcome, command}
 use Rattle.machine.specs.WorkedRuns.{WorkedRuns}
 
 pub worked_runs : WorkedRuns
-unfolding add sub mul bit_at of_bits up sum_of block ◌then◌ store reshare multiply bit deal exchange source round_s round_p round
-    rounds bits compare begin fold_share fold folds equal opening below judged verdict protocol accepted command
+unfolding add sub mul bit_at of_bits shift_up sum_of block ◌then◌ store reshare multiply bit deal exchange source round_s round_p round
+    rounds bits compare first_masks fold_share fold folds equal opening below row_verdict verdict protocol accepted_outcome command
 worked_runs = record {
   store = refl;
   add = refl;

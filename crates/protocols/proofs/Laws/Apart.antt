@@ -2,7 +2,7 @@
 use Rattle.std.proofs.Common.{ℕ}
 use Rattle.protocols.specs.Word.{modulus}
 use Rattle.protocols.specs.Apart.{ProtocolsApart}
-use Rattle.protocols.proofs.Laws.Apart.Ring.{sum_apart, difference_apart, multiple_apart, shifted_apart}
+use Rattle.protocols.proofs.Laws.Apart.Ring.{sum_apart, difference_apart, constant_multiple_apart, constant_sum_apart}
 use Rattle.protocols.proofs.Laws.Apart.Ring.{store_apart, reshare_apart, multiply_apart, opening_apart}
 use Rattle.protocols.proofs.Laws.Apart.Bit.{bit_apart}
 use Rattle.protocols.proofs.Laws.Apart.Bits.{bits_apart, below_apart}
@@ -23,8 +23,8 @@ protocols_apart n = record {
   store_apart = store_apart (modulus n);
   sum_apart = sum_apart (modulus n);
   difference_apart = difference_apart (modulus n);
-  shifted_apart = shifted_apart (modulus n);
-  multiple_apart = multiple_apart (modulus n);
+  constant_sum_apart = constant_sum_apart (modulus n);
+  constant_multiple_apart = constant_multiple_apart (modulus n);
   multiply_apart = multiply_apart (modulus n);
   reshare_apart = reshare_apart (modulus n);
   bits_apart = bits_apart n;

@@ -4,28 +4,28 @@ use lib.Bits.{bit_xor, bit_and, xor_lt, xor_comm, xor_self, xor_zero_r}
 use borrow.Author.Tests.{eqb-false}
 use Rattle.protocols.specs.declared.place.Party.TheVariants.{One}
 use Rattle.protocols.specs.declared.shares.Shares.{Shares}
-use Rattle.protocols.specs.declared.bits.Held.{Held}
-use Rattle.protocols.specs.declared.equal.Folding.{Folding}
-use Rattle.protocols.specs.Word.{width, modulus, add, sub, bit_at, up}
+use Rattle.protocols.specs.declared.bits.CarryState.{CarryState}
+use Rattle.protocols.specs.declared.equal.FoldState.{FoldState}
+use Rattle.protocols.specs.Word.{width, modulus, add, sub, bit_at, shift_up}
 use Rattle.protocols.specs.Shares.{one, shares, Operands, sum_of, xor_of}
 use Rattle.protocols.specs.Place.{Tapes, word, counts, cut}
 use Rattle.protocols.specs.Protocol.{◌then◌}
 use Rattle.protocols.specs.Local.{difference}
-use Rattle.protocols.specs.Masked.{masked}
-use Rattle.protocols.specs.Bit.{bits_at, b, m₁₂, b₁₂, s₂₃, s₃₂, chosen, bit}
-use Rattle.protocols.specs.Bits.{round_s, round_p, dealt, opened, deal, exchange, round, rounds, bits}
-use Rattle.protocols.specs.Equal.{compared, compare, begin, fold_share, fold, folds, equal}
+use Rattle.protocols.specs.Masked.{masked_shares}
+use Rattle.protocols.specs.Bit.{bits_at, b, m₁₂, b₁₂, s₂₃, s₃₂, chosen_shares, bit}
+use Rattle.protocols.specs.Bits.{round_s, round_p, dealing, exchanged_sum, deal, exchange, round, rounds, bits}
+use Rattle.protocols.specs.Equal.{comparison, compare, first_masks, fold_share, fold, folds, equal}
 use Rattle.protocols.specs.Below.{below}
 use Rattle.protocols.specs.Contents.{Contents}
 use Rattle.protocols.specs.Claims.{BitsCombine}
 use Rattle.protocols.proofs.Laws.Ring.{same-mod, add-lt, sub-lt, add_r, sub_r}
 use Rattle.protocols.proofs.Laws.Bitwise.{bit-lt, by_bit, and_xor, xor_assoc, xor_cancel, xor_cancel_l, xor·ac}
 use Rattle.protocols.proofs.Laws.Blocks.{word_lt, contents_cut, contents_rest}
-use Rattle.protocols.proofs.Laws.Shared.{xor_masked, xor-round_s, xor-round_p, xor-fold, xor_of-lt, xor-joined, xor-bits_at}
+use Rattle.protocols.proofs.Laws.Shared.{xor_masked, xor-round_s, xor-round_p, xor-fold, xor_of-lt, xor-sum_bits, xor-bits_at}
 use Rattle.protocols.proofs.Laws.Carry.{carry_p, carry_s, carry_sum}
 use Rattle.protocols.proofs.Laws.Fold.{fold_plain, fold_ones}
 use Rattle.protocols.proofs.Laws.RingCombine.{sum_lt, sum_r, sum_is, ring_combines}
-use Rattle.protocols.proofs.Laws.Bounds.{compared-words, low-lt, s₂₃-lt, s₃₂-lt}
+use Rattle.protocols.proofs.Laws.Bounds.{comparison-words, low-lt, s₂₃-lt, s₃₂-lt}
 
 -- ---- over plain words
 
@@ -56,7 +56,7 @@ nat_eq_same a b c d f g = by_test (eqb c d) refl
 -- ---- what the shares held after k rounds combine to
 
 -- in Bits, from words v and r that add up to x
-record HeldCarries (n k x : ℕ) (h : Held) : Type 0 where
+record StateHasCarries (n k x : ℕ) (h : CarryState) : Type 0 where
   v : ℕ
   r : ℕ
   v-word : v < modulus n
@@ -67,7 +67,7 @@ record HeldCarries (n k x : ℕ) (h : Held) : Type 0 where
   base_is : xor_of h.base ≡ bit_xor v r
 
 -- in Equal, from a word e that is all ones exactly when x and y are equal
-record HeldFold (n k x y : ℕ) (h : Folding) : Type 0 where
+record StateHasFold (n k x y : ℕ) (h : FoldState) : Type 0 where
   e : ℕ
   e_word : e < modulus n
   tells : eqb e (modulus n - 1) ≡ eqb x y
@@ -98,16 +98,16 @@ module _ (n : ℕ) where
   -- ---- Bit
 
   -- the bit a in shares c and a - c, kept or negated by the bit s
-  chosen-sum : (a s c : ℕ) → a < 2 → s < 2 → sum_of m (chosen m s c (sub m a c)) ≡ bit_xor a s
+  chosen-sum : (a s c : ℕ) → a < 2 → s < 2 → sum_of m (chosen_shares m s c (sub m a c)) ≡ bit_xor a s
   chosen-sum a s c ha hs =
-      by_bit (λ s. sum_of m (chosen m s c (sub m a c)) ≡ bit_xor a s)
-      (kept ∙ sym (xor_zero_r a)) (negated ∙ by_bit (λ a. 1 - a ≡ bit_xor a 1) refl refl a ha) s hs
+      by_bit (λ s. sum_of m (chosen_shares m s c (sub m a c)) ≡ bit_xor a s)
+      (kept-sum ∙ sym (xor_zero_r a)) (negated-sum ∙ by_bit (λ a. 1 - a ≡ bit_xor a 1) refl refl a ha) s hs
     where
-      kept : sum_of m (shares 0 c (sub m a c)) ≡ a
-      kept = let (q, k, e) = sub_r m pos a c in sum_is m pos (shares 0 c (sub m a c)) a q k (omega (arith, two-le)) (omega (arith, e))
+      kept-sum : sum_of m (shares 0 c (sub m a c)) ≡ a
+      kept-sum = let (q, k, e) = sub_r m pos a c in sum_is m pos (shares 0 c (sub m a c)) a q k (omega (arith, two-le)) (omega (arith, e))
 
-      negated : sum_of m (shares 0 (sub m 1 c) (sub m 0 (sub m a c))) ≡ 1 - a
-      negated =
+      negated-sum : sum_of m (shares 0 (sub m 1 c) (sub m 0 (sub m a c))) ≡ 1 - a
+      negated-sum =
           let (q, k, e) = sub_r m pos a c in
           let (q₁, k₁, e₁) = sub_r m pos 1 c in
           let (q₀, k₀, e₀) = sub_r m pos 0 (sub m a c) in
@@ -131,10 +131,10 @@ module _ (n : ℕ) where
   -- ---- Bits
 
   -- the opened word v and the drawn word r
-  opened-sum : (u : Shares) (t : Tapes) → add m (opened m (dealt m u t)) (word t one 0) ≡ sum_of m u
-  opened-sum u t =
+  exchanged_sum-sum : (u : Shares) (t : Tapes) → add m (exchanged_sum m (dealing m u t)) (word t one 0) ≡ sum_of m u
+  exchanged_sum-sum u t =
       let r = word t one 0 in
-      let v = opened m (dealt m u t) in
+      let v = exchanged_sum m (dealing m u t) in
       let (a, f) = sum_r m pos (shares (sub m u.one r) u.two u.three) in
       let (a', f') = sum_r m pos u in
       let (q, k, e) = sub_r m pos u.one r in
@@ -143,17 +143,17 @@ module _ (n : ℕ) where
       (omega (arith, e, e', f, f', dealt-sum (sub m u.one r) u.two u.three (word t one 1)))
 
   rounds_carry : (k : ℕ) (u : Shares) (t : Tapes) → Contents m (rounds n k).draws t
-      → HeldCarries n k (sum_of m u) ((rounds n k).result u t)
+      → StateHasCarries n k (sum_of m u) ((rounds n k).result u t)
   unfolding rounds ◌then◌ deal exchange round carry_p carry_s xor_of
   rounds_carry zero u t c =
       let t' = cut (counts 0 3 0 0) t in
-      let v = opened m (dealt m u t') in
+      let v = exchanged_sum m (dealing m u t') in
       record {
         v = v;
         r = word t' one 0;
         v-word = add-lt m pos _ _;
         r_word = word_lt t'.one 0 (contents_cut m (deal n).draws (exchange n).draws t c One) (omega arith);
-        adds_up = opened-sum u t';
+        adds_up = exchanged_sum-sum u t';
         p_is = xor_shared v (word t' one 0) (word t' one 2);
         s_is = and_shared v (word t' one 0) (word t' one 2);
         base_is = xor_shared v (word t' one 0) (word t' one 2);
@@ -169,9 +169,9 @@ module _ (n : ℕ) where
         v-word = i.v-word;
         r_word = i.r_word;
         adds_up = i.adds_up;
-        p_is = xor-round_p (width n) k (masked h.p h.q) ∙ ap (λ (x : ℕ). round_p (width n) k x 0) (xor_masked h.p h.q ∙ i.p_is);
+        p_is = xor-round_p (width n) k (masked_shares h.p h.q) ∙ ap (λ (x : ℕ). round_p (width n) k x 0) (xor_masked h.p h.q ∙ i.p_is);
         s_is =
-            xor-round_s (width n) k (masked h.p h.q) (masked h.s h.t)
+            xor-round_s (width n) k (masked_shares h.p h.q) (masked_shares h.s h.t)
             ∙ ap₂ (λ (x y : ℕ). round_s (width n) k x 0 y 0) (xor_masked h.p h.q ∙ i.p_is) (xor_masked h.s h.t ∙ i.s_is);
         base_is = i.base_is;
       }
@@ -182,18 +182,18 @@ module _ (n : ℕ) where
       let t' = cut (rounds n n).draws t in
       let h = (rounds n n).result u t' in
       let i = rounds_carry n u t' (contents_cut m (rounds n n).draws (counts 0 0 0 0) t c) in
-      xor-joined (width n) h
-      ∙ xor_comm (up (width n) (xor_of h.s)) (xor_of h.base)
-      ∙ ap₂ (λ (x y : ℕ). bit_xor x (up (width n) y)) i.base_is i.s_is
+      xor-sum_bits (width n) h
+      ∙ xor_comm (shift_up (width n) (xor_of h.s)) (xor_of h.base)
+      ∙ ap₂ (λ (x y : ℕ). bit_xor x (shift_up (width n) y)) i.base_is i.s_is
       ∙ carry_sum n i.v i.r i.v-word i.r_word
       ∙ i.adds_up
 
   -- ---- Equal
 
   -- shares 2 and 3 differ as the sums do
-  compared_r : (x : Operands) (t : Tapes)
-      → (q : ℕ) × (k : ℕ) × ((compared m x t).two + sum_of m x.v + q * m ≡ (compared m x t).three + sum_of m x.u + k * m)
-  compared_r x t =
+  comparison_r : (x : Operands) (t : Tapes)
+      → (q : ℕ) × (k : ℕ) × ((comparison m x t).two + sum_of m x.v + q * m ≡ (comparison m x t).three + sum_of m x.u + k * m)
+  comparison_r x t =
       let d = difference m x in
       let e₂ = add m d.two (word t one 0) in
       let e₃ = add m d.three (sub m d.one (word t one 0)) in
@@ -202,32 +202,32 @@ module _ (n : ℕ) where
       let (q', k', g') = sub_r m pos (sum_of m x.u) (sum_of m x.v) in
       (k + q', a + q + k', omega (arith, f, g, g', dealt-sum d.one d.two d.three (word t one 0), (ring_combines m pos).difference_combines x))
 
-  compared_ones : (x : Operands) (t : Tapes) → eqb (xor_of (compared m x t)) (m - 1) ≡ eqb (sum_of m x.u) (sum_of m x.v)
+  comparison-ones : (x : Operands) (t : Tapes) → eqb (xor_of (comparison m x t)) (m - 1) ≡ eqb (sum_of m x.u) (sum_of m x.v)
   unfolding xor_of
-  compared_ones x t = nat_eq_same (xor_of c) (m - 1) (sum_of m x.u) (sum_of m x.v) sums_equal all_ones
+  comparison-ones x t = nat_eq_same (xor_of c) (m - 1) (sum_of m x.u) (sum_of m x.v) sums_equal all_ones
     where
       c : Shares
-      c = compared m x t
+      c = comparison m x t
 
       sums_equal : bit_xor (bit_xor (m - 1) c.two) c.three ≡ m - 1 → sum_of m x.u ≡ sum_of m x.v
       sums_equal h =
-          let (q, k, e) = compared_r x t in
+          let (q, k, e) = comparison_r x t in
           same-mod m pos (sum_of m x.u) (sum_of m x.v) k q (sum_lt m pos x.u) (sum_lt m pos x.v) (omega (arith, e, xor_same (m - 1) c.two c.three h))
 
       all_ones : sum_of m x.u ≡ sum_of m x.v → bit_xor (bit_xor (m - 1) c.two) c.three ≡ m - 1
       all_ones h =
-          let (q, k, e) = compared_r x t in
+          let (q, k, e) = comparison_r x t in
           let same : c.two ≡ c.three = same-mod m pos c.two c.three q k (add-lt m pos _ _) (sub-lt m pos _ _) (omega (arith, e, h)) in
           rw same (xor_cancel (m - 1) c.three)
 
-  folds-fold : (k : ℕ) (x : Operands) (t : Tapes) → HeldFold n k (sum_of m x.u) (sum_of m x.v) ((folds n k).result x t)
-  unfolding folds ◌then◌ compare begin fold fold_plain
+  folds-fold : (k : ℕ) (x : Operands) (t : Tapes) → StateHasFold n k (sum_of m x.u) (sum_of m x.v) ((folds n k).result x t)
+  unfolding folds ◌then◌ compare first_masks fold fold_plain
   folds-fold zero x t =
       let t' = cut (counts 0 1 0 0) t in
       record {
-        e = xor_of (compared m x t');
-        e_word = xor_of-lt (width n) (compared m x t') (compared-words m pos x t');
-        tells = compared_ones x t';
+        e = xor_of (comparison m x t');
+        e_word = xor_of-lt (width n) (comparison m x t') (comparison-words m pos x t');
+        tells = comparison-ones x t';
         p_is = refl;
       }
   folds-fold (suc k) x t =
@@ -237,7 +237,7 @@ module _ (n : ℕ) where
         e = i.e;
         e_word = i.e_word;
         tells = i.tells;
-        p_is = xor-fold (width n) k (masked h.p h.q) ∙ ap (λ (y : ℕ). fold_share (width n) k y 0) (xor_masked h.p h.q ∙ i.p_is);
+        p_is = xor-fold (width n) k (masked_shares h.p h.q) ∙ ap (λ (y : ℕ). fold_share (width n) k y 0) (xor_masked h.p h.q ∙ i.p_is);
       }
 
   equal-sum : (x : Operands) (t : Tapes) → sum_of m ((equal n).result x t) ≡ cond (eqb (sum_of m x.u) (sum_of m x.v)) 1 0

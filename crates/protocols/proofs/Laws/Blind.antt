@@ -10,7 +10,7 @@ use Rattle.std.proofs.Common.{ℕ, ◌<◌, pow_pos}
 use Rattle.protocols.specs.Word.{width, modulus}
 use Rattle.protocols.specs.Blind.{Observer}
 use Rattle.protocols.specs.Claims.{BlindProtocols}
-use Rattle.protocols.proofs.Laws.Blind.Ring.{store_blind, sum_blind, difference_blind, shifted_blind, multiple_blind, multiply_blind, reshare_blind, opening_blind}
+use Rattle.protocols.proofs.Laws.Blind.Ring.{store_blind, sum_blind, difference_blind, constant_sum_blind, constant_multiple_blind, multiply_blind, reshare_blind, opening_blind}
 use Rattle.protocols.proofs.Laws.Blind.Bit.{bit_blind}
 use Rattle.protocols.proofs.Laws.Blind.Bits.{bits_blind}
 use Rattle.protocols.proofs.Laws.Blind.Equal.{equal_blind, below_blind}
@@ -22,8 +22,8 @@ blind_protocols n o =
       store_blind = store_blind pos o;
       sum_blind = sum_blind (modulus n) o;
       difference_blind = difference_blind (modulus n) o;
-      shifted_blind = shifted_blind (modulus n) o;
-      multiple_blind = multiple_blind (modulus n) o;
+      constant_sum_blind = constant_sum_blind (modulus n) o;
+      constant_multiple_blind = constant_multiple_blind (modulus n) o;
       multiply_blind = multiply_blind pos o;
       reshare_blind = reshare_blind pos o;
       bits_blind = bits_blind n o;

@@ -4,21 +4,21 @@ use Rattle.protocols.specs.declared.place.Party.{Party}
 use Rattle.protocols.specs.declared.place.Party.TheVariants.{Provider, One, Two, Three}
 use Rattle.protocols.specs.declared.place.Drawn.{Drawn}
 use Rattle.protocols.specs.declared.place.Place.{Place}
-use Rattle.protocols.specs.Place.{Tapes, tapes, tape, count, plus, cut, rest, join, block}
-use Rattle.protocols.specs.Contents.{Below, Words, Contents}
+use Rattle.protocols.specs.Place.{Tapes, tapes, tape, count, plus, cut, rest, block}
+use Rattle.protocols.specs.Contents.{AllBelow, Words, Contents}
 
 -- ---- one list
 
-pub below-append : (m : ℕ) (s t : List ℕ) → Below m s → Below m t → Below m (s ++ t)
+pub below-append : (m : ℕ) (s t : List ℕ) → AllBelow m s → AllBelow m t → AllBelow m (s ++ t)
 below-append m [] t a b = b
 below-append m (x ∷ s) t a b = (a.0, below-append m s t a.1 b)
 
-pub below-take : (m n : ℕ) (s : List ℕ) → Below m s → Below m (take n s)
+pub below-take : (m n : ℕ) (s : List ℕ) → AllBelow m s → AllBelow m (take n s)
 below-take m zero s a = tt
 below-take m (suc n) [] a = tt
 below-take m (suc n) (x ∷ s) a = (a.0, below-take m n s a.1)
 
-pub below-drop : (m n : ℕ) (s : List ℕ) → Below m s → Below m (drop n s)
+pub below-drop : (m n : ℕ) (s : List ℕ) → AllBelow m s → AllBelow m (drop n s)
 below-drop m zero s a = a
 below-drop m (suc n) [] a = tt
 below-drop m (suc n) (x ∷ s) a = below-drop m n s a.1
@@ -42,6 +42,10 @@ word_lt {m} {n} (a ∷ l) (suc k) h i = word_lt l k (record { long = refl; below
 
 pub tapes_ext : (a b : Tapes) → ((p : Party) → tape p a ≡ tape p b) → a ≡ b
 tapes_ext a b e = λ i. tapes (e Provider i) (e One i) (e Two i) (e Three i)
+
+-- the words of the one and then those of the other
+abbrev pub join : Tapes → Tapes → Tapes
+join a b = tapes (a.provider ++ b.provider) (a.one ++ b.one) (a.two ++ b.two) (a.three ++ b.three)
 
 module _ (m : ℕ) (n k : Drawn) where
   pub contents_cut : (t : Tapes) → Contents m (plus n k) t → Contents m n (cut n t)
@@ -93,13 +97,13 @@ module _ (m : ℕ) (n : Drawn) (a b : Tapes) (h : Contents m n a) where
 -- ---- the next words of the tapes
 
 module _ (m : ℕ) where
-  next_words : (l : List ℕ) (k j : ℕ) → Below m l → k + j ≤ length l → Words m j (take j (drop k l))
+  next_words : (l : List ℕ) (k j : ℕ) → AllBelow m l → k + j ≤ length l → Words m j (take j (drop k l))
   next_words l k j b h = record {
     long = length-take-le j (drop k l) (omega (arith, length-drop k l));
     below = below-take m j (drop k l) (below-drop m k l b);
   }
 
-  pub block_contents : (d : Drawn) (p : Place) (t : Tapes) → ((i : Party) → Below m (tape i t))
+  pub block_contents : (d : Drawn) (p : Place) (t : Tapes) → ((i : Party) → AllBelow m (tape i t))
       → ((i : Party) → count i p.drawn + count i d ≤ length (tape i t)) → Contents m d (block d p t)
   unfolding block
   block_contents d p t b h Provider = next_words t.provider p.drawn.provider d.provider (b Provider) (h Provider)

@@ -1,10 +1,10 @@
--- The rounds of Bits on plain words leave the carries of a sum. (000, algorithm 4)
+-- The rounds of Bits on plain words leave the carries of a sum.
 use Rattle.std.proofs.Common.{◌≡◌, ℕ, zero, suc, ◌+◌, ◌*◌, ◌/◌, ◌%◌, ◌^◌, ◌<◌, sym, ap, ◌∙◌, ap₂, ⊎_elim, le_trans, lt_trans, mod-lt, div-lt_iff_lt-mul, add-mul, pow-suc, zero-mul, mul-one, div-one, mul-div_cancel, one-add, arith, pow_pos}
 use native.Mathlib.Nat.{mod-one, div-eq_of_lt, div-div-eq-div-mul, add-mul-div_right, mul-mod_left}
 use lib.Arith.{digits_mod, digits_div}
 use lib.Pow.{split, mod-pow-add}
 use lib.Bits.{bit_xor, bit_and, xor_lt, xor_self, xor_zero_r, and_zero_r, xor_add_and, xor_disjoint}
-use Rattle.protocols.specs.Word.{width, modulus, bit_at, add, up}
+use Rattle.protocols.specs.Word.{width, modulus, bit_at, add, shift_up}
 use Rattle.protocols.specs.Bits.{round_s_at, round_p_at, source, round_s, round_p}
 use Rattle.protocols.proofs.Laws.Bitwise.{bit-lt, bit_0, bit-suc, bit-mod, clear-or-set, bit_at-xor, bit_at-and, ext, xor_assoc, and_assoc, and-left_comm, and_twice, and_xor, xor-and}
 use Rattle.protocols.proofs.Laws.Shared.{bit-round_s, bit-round_p, and_share_zero, up_lt}
@@ -121,22 +121,22 @@ bit_carry_s n v r j l =
     sym (carries_rounds (width n) (carry v r) n (bit_xor v r) (bit_and v r) (carries_begin (width n) v r) j l
     ∙ rw (div-eq_of_lt l, zero-mul, carry_zero v r, and_zero_r) (xor_zero_r (bit_at (carry_s (width n) n (bit_xor v r) (bit_and v r)) j)))
 
-bit_up : (w x j : ℕ) → suc j < w → bit_at (up w x) (suc j) ≡ bit_at x j
-unfolding up
+bit_up : (w x j : ℕ) → suc j < w → bit_at (shift_up w x) (suc j) ≡ bit_at x j
+unfolding shift_up
 bit_up w x j l = bit-mod (x * 2) w (suc j) l ∙ bit-suc (x * 2) j ∙ ap (λ (y : ℕ). bit_at y j) (mul-div_cancel x (pow_pos 1))
 
-bit-up_zero : (w x : ℕ) → 0 < w → bit_at (up w x) 0 ≡ 0
-unfolding up
+bit-up_zero : (w x : ℕ) → 0 < w → bit_at (shift_up w x) 0 ≡ 0
+unfolding shift_up
 bit-up_zero w x l = bit-mod (x * 2) w 0 l ∙ bit_0 (x * 2) ∙ mul-mod_left x 2
 
 -- the sum is the two words and the carries, shifted up by one, added without carry
 pub carry_sum : (n v r : ℕ) → v < modulus n → r < modulus n
-    → bit_xor (bit_xor v r) (up (width n) (carry_s (width n) n (bit_xor v r) (bit_and v r))) ≡ add (modulus n) v r
+    → bit_xor (bit_xor v r) (shift_up (width n) (carry_s (width n) n (bit_xor v r) (bit_and v r))) ≡ add (modulus n) v r
 unfolding add
 carry_sum n v r hv hr =
-    ext w (bit_xor (bit_xor v r) (up w s)) ((v + r) % 2 ^ w)
-    (xor_lt w (bit_xor v r) (up w s) (xor_lt w v r hv hr) (up_lt w s)) (mod-lt (v + r) (pow_pos w))
-    (λ j l. rw (bit_at-xor (bit_xor v r) (up w s) j, bit_at-xor v r j, bit-mod (v + r) w j l, bit-add v r j)
+    ext w (bit_xor (bit_xor v r) (shift_up w s)) ((v + r) % 2 ^ w)
+    (xor_lt w (bit_xor v r) (shift_up w s) (xor_lt w v r hv hr) (up_lt w s)) (mod-lt (v + r) (pow_pos w))
+    (λ j l. rw (bit_at-xor (bit_xor v r) (shift_up w s) j, bit_at-xor v r j, bit-mod (v + r) w j l, bit-add v r j)
     (ap (bit_xor (bit_xor (bit_at v j) (bit_at r j))) (carries j l)))
   where
     w : ℕ
@@ -145,6 +145,6 @@ carry_sum n v r hv hr =
     s : ℕ
     s = carry_s w n (bit_xor v r) (bit_and v r)
 
-    carries : (j : ℕ) → j < w → bit_at (up w s) j ≡ carry v r j
+    carries : (j : ℕ) → j < w → bit_at (shift_up w s) j ≡ carry v r j
     carries zero l = bit-up_zero w s l ∙ sym (carry_zero v r)
     carries (suc j) l = bit_up w s j l ∙ bit_carry_s n v r j (le_trans (omega arith) l)

@@ -1,14 +1,14 @@
--- What each protocol draws, delivers and makes: laws of Counted, and document 01's table.
+-- What each protocol draws, delivers and makes: laws of HasCounts, and each protocol's row.
 use Rattle.std.proofs.Common.{◌≡◌, ℕ, zero, suc, ◌+◌, ◌-◌, ◌*◌, ◌<◌, ◌≤◌, [], ◌∷◌, length, refl, ◌∙◌, ap₂, subst₂, arith, length-append, pow_pos, pow_mono}
 use lib.Bits.{bit_xor, xor_lt}
 use Rattle.protocols.specs.declared.place.Party.TheVariants.{Provider, One}
 use Rattle.protocols.specs.declared.place.Drawn.{Drawn}
 use Rattle.protocols.specs.declared.place.Received.{Received}
 use Rattle.protocols.specs.declared.shares.Shares.{Shares}
-use Rattle.protocols.specs.declared.bits.Held.{Held}
-use Rattle.protocols.specs.declared.equal.Folding.{Folding}
-use Rattle.protocols.specs.Word.{width, modulus, sub, bit_at, up}
-use Rattle.protocols.specs.Shares.{one, two, three, prev, at, AreWords}
+use Rattle.protocols.specs.declared.bits.CarryState.{CarryState}
+use Rattle.protocols.specs.declared.equal.FoldState.{FoldState}
+use Rattle.protocols.specs.Word.{width, modulus, sub, bit_at, shift_up}
+use Rattle.protocols.specs.Shares.{one, two, three, prev, at, SharesAreWords}
 use Rattle.protocols.specs.Place.{Tapes, word, words, counts, plus, cut, rest, silence, ◌followed_by◌}
 use Rattle.protocols.specs.Place.{Lists, Receiver, miner, controller, list, to_next, to_two_three, to_each, to_controller}
 use Rattle.protocols.specs.Protocol.{Protocol, locally, ◌then◌}
@@ -16,19 +16,19 @@ use Rattle.protocols.specs.Store.{store}
 use Rattle.protocols.specs.Local.{difference}
 use Rattle.protocols.specs.Reshare.{reshare}
 use Rattle.protocols.specs.Multiply.{masked_u, masked_v, multiply}
-use Rattle.protocols.specs.Masked.{masked}
+use Rattle.protocols.specs.Masked.{masked_shares}
 use Rattle.protocols.specs.Bit.{bits_at, b, m₁₂, m₁₃, s₂₃, s₃₂, bit}
-use Rattle.protocols.specs.Bits.{deal, exchange, round, rounds, joined, bits}
-use Rattle.protocols.specs.Equal.{compare, begin, fold, folds, equal}
+use Rattle.protocols.specs.Bits.{deal, exchange, round, rounds, sum_bits, bits}
+use Rattle.protocols.specs.Equal.{compare, first_masks, fold, folds, equal}
 use Rattle.protocols.specs.Open.{opening}
 use Rattle.protocols.specs.Below.{below}
 use Rattle.protocols.specs.Contents.{Words, Contents}
-use Rattle.protocols.specs.Counts.{received, list_lengths, plus_received, due, Counted}
-use Rattle.protocols.specs.Claims.{OperandsAreWords, Table, TableAt32}
+use Rattle.protocols.specs.Counts.{received_counts, list_lengths, plus_received, count_for, HasCounts}
+use Rattle.protocols.specs.Claims.{OperandsAreWords, Rows, RowsAt32}
 use Rattle.protocols.proofs.Laws.Ring.{add-lt, sub-lt, mul-lt}
 use Rattle.protocols.proofs.Laws.Shared.{round_s-lt, round_p-lt, fold_share-lt, up_lt}
-use Rattle.protocols.proofs.Laws.Bounds.{words_of, words-three, drawn-words, fresh-words, difference-words, compared-words, product-words, choose_word, low-lt, b₁₃-lt, s₂₃-lt, s₃₂-lt, masked-words}
-use Rattle.protocols.proofs.Laws.Bounds.{DealtWords, dealt-words, p₀-words, s₀-words}
+use Rattle.protocols.proofs.Laws.Bounds.{words_of, words-three, drawn-words, fresh-words, difference-words, comparison-words, product-words, choose_word, low-lt, b₁₃-lt, s₂₃-lt, s₃₂-lt, masked-words}
+use Rattle.protocols.proofs.Laws.Bounds.{DealingWords, dealing-words, p₀-words, s₀-words}
 use Rattle.protocols.proofs.Laws.Blocks.{words_append, word_lt, contents_cut, contents_rest}
 
 -- ---- counts
@@ -44,11 +44,11 @@ drawn_path : {n n' : Drawn} → SameDrawn n n' → n ≡ n'
 drawn_path e = λ i. counts (e.0 i) (e.1 i) (e.2 i) (e.3 i)
 
 received_path : {k k' : Received} → SameReceived k k' → k ≡ k'
-received_path e = λ i. received (e.0 i) (e.1 i) (e.2 i) (e.3 i)
+received_path e = λ i. received_counts (e.0 i) (e.1 i) (e.2 i) (e.3 i)
 
 -- ---- lengths of received lists
 
-pub due-list_lengths : (r : Receiver) (l : Lists) → due r (list_lengths l) ≡ length (list r l)
+pub due-list_lengths : (r : Receiver) (l : Lists) → count_for r (list_lengths l) ≡ length (list r l)
 due-list_lengths (miner one) l = refl
 due-list_lengths (miner two) l = refl
 due-list_lengths (miner three) l = refl
@@ -56,10 +56,10 @@ due-list_lengths controller l = refl
 
 -- lists of k words
 abbrev Long : Received → Lists → Type 0
-Long k l = (r : Receiver) → length (list r l) ≡ due r k
+Long k l = (r : Receiver) → length (list r l) ≡ count_for r k
 
 -- lists are as long as they are: for lists of fixed shape the counts compute
-own_long : (l : Lists) → Long (received (length l.one) (length l.two) (length l.three) (length l.controller)) l
+own_long : (l : Lists) → Long (received_counts (length l.one) (length l.two) (length l.three) (length l.controller)) l
 own_long l (miner one) = refl
 own_long l (miner two) = refl
 own_long l (miner three) = refl
@@ -75,7 +75,7 @@ followed_by_long l l' g h controller = length-append l.controller l'.controller 
 
 -- lists of k words below m
 abbrev WordLists : ℕ → Received → Lists → Type 0
-WordLists m k l = (r : Receiver) → Words m (due r k) (list r l)
+WordLists m k l = (r : Receiver) → Words m (count_for r k) (list r l)
 
 module _ {m : ℕ} where
   followed_by_words : {j k : Received} {l l' : Lists} → WordLists m j l → WordLists m k l' → WordLists m (plus_received j k) (l followed_by l')
@@ -90,50 +90,50 @@ module _ {m : ℕ} where
   one_word : {x : ℕ} → x < m → Words m 1 (x ∷ [])
   one_word h = record { long = refl; below = (h, tt) }
 
-  silence-words : WordLists m (received 0 0 0 0) silence
+  silence-words : WordLists m (received_counts 0 0 0 0) silence
   silence-words (miner one) = no_words
   silence-words (miner two) = no_words
   silence-words (miner three) = no_words
   silence-words controller = no_words
 
-  next_words : {s : Shares} → AreWords m s → WordLists m (received 1 1 1 0) (to_next s)
+  next_words : {s : Shares} → SharesAreWords m s → WordLists m (received_counts 1 1 1 0) (to_next s)
   next_words h (miner one) = one_word (h three)
   next_words h (miner two) = one_word (h one)
   next_words h (miner three) = one_word (h two)
   next_words h controller = no_words
 
-  two-three-words : {a b : ℕ} → a < m → b < m → WordLists m (received 0 1 1 0) (to_two_three a b)
+  two-three-words : {a b : ℕ} → a < m → b < m → WordLists m (received_counts 0 1 1 0) (to_two_three a b)
   two-three-words g h (miner one) = no_words
   two-three-words g h (miner two) = one_word g
   two-three-words g h (miner three) = one_word h
   two-three-words g h controller = no_words
 
-  each-words : {s : Shares} → AreWords m s → WordLists m (received 1 1 1 0) (to_each s)
+  each-words : {s : Shares} → SharesAreWords m s → WordLists m (received_counts 1 1 1 0) (to_each s)
   each-words h (miner one) = one_word (h one)
   each-words h (miner two) = one_word (h two)
   each-words h (miner three) = one_word (h three)
   each-words h controller = no_words
 
-  controller-words : {s : Shares} → AreWords m s → WordLists m (received 0 0 0 3) (to_controller s)
+  controller-words : {s : Shares} → SharesAreWords m s → WordLists m (received_counts 0 0 0 3) (to_controller s)
   controller-words h (miner one) = no_words
   controller-words h (miner two) = no_words
   controller-words h (miner three) = no_words
   controller-words h controller = record { long = refl; below = (h one, (h two, (h three, tt))) }
 
--- ---- the laws of Counted
+-- ---- the laws of HasCounts
 
 module _ {m : ℕ} {S T : Type 0} {Good : S → Type 0} {Made : T → Type 0} where
-  pub counted-locally : {f : S → T} → ((s : S) → Good s → Made (f s)) → Counted m (locally f) Good Made (counts 0 0 0 0) (received 0 0 0 0)
-  counted-locally h = record { drawn = refl; long = λ s b. own_long _; delivered = λ s g b c. silence-words; made = λ s g b c. h s g }
+  pub counts-locally : {f : S → T} → ((s : S) → Good s → Made (f s)) → HasCounts m (locally f) Good Made (counts 0 0 0 0) (received_counts 0 0 0 0)
+  counts-locally h = record { drawn = refl; long = λ s b. own_long _; delivered = λ s g b c. silence-words; made = λ s g b c. h s g }
 
-  pub counted_along : {f : Protocol S T} {n n' : Drawn} {k k' : Received}
-      → Counted m f Good Made n k → SameDrawn n n' → SameReceived k k' → Counted m f Good Made n' k'
-  counted_along {f} c e d = subst₂ (Counted m f Good Made) (drawn_path e) (received_path d) c
+  pub counts_along : {f : Protocol S T} {n n' : Drawn} {k k' : Received}
+      → HasCounts m f Good Made n k → SameDrawn n n' → SameReceived k k' → HasCounts m f Good Made n' k'
+  counts_along {f} c e d = subst₂ (HasCounts m f Good Made) (drawn_path e) (received_path d) c
 
-  pub counted_then : {Z : Type 0} {Last : Z → Type 0} {f : Protocol S T} {g : Protocol T Z} {n n' : Drawn} {k k' : Received}
-      → Counted m f Good Made n k → Counted m g Made Last n' k' → Counted m (f then g) Good Last (plus n n') (plus_received k k')
+  pub counts_then : {Z : Type 0} {Last : Z → Type 0} {f : Protocol S T} {g : Protocol T Z} {n n' : Drawn} {k k' : Received}
+      → HasCounts m f Good Made n k → HasCounts m g Made Last n' k' → HasCounts m (f then g) Good Last (plus n n') (plus_received k k')
   unfolding ◌then◌
-  counted_then {f = f} {g} c d = record {
+  counts_then {f = f} {g} c d = record {
     drawn = ap₂ plus c.drawn d.drawn;
     long = λ s b. followed_by_long _ _ (c.long s _) (d.long _ _);
     delivered = λ s h b w. followed_by_words (c.delivered s h _ (first b w)) (d.delivered _ (c.made s h _ (first b w)) _ (second b w));
@@ -149,15 +149,15 @@ module _ {m : ℕ} {S T : Type 0} {Good : S → Type 0} {Made : T → Type 0} wh
 -- ---- the ring protocols
 
 module _ (m : ℕ) (pos : 0 < m) where
-  store-counts : Counted m (store m) (λ v. v < m) (AreWords m) (counts 2 0 0 0) (received 1 1 1 0)
+  store-counts : HasCounts m (store m) (λ v. v < m) (SharesAreWords m) (counts 2 0 0 0) (received_counts 1 1 1 0)
   unfolding store
-  store-counts = record { drawn = refl; long = λ v b. own_long _; delivered = λ v g b h. each-words (dealt-words v b h); made = λ v g b h. dealt-words v b h }
+  store-counts = record { drawn = refl; long = λ v b. own_long _; delivered = λ v g b h. each-words (words-of_input v b h); made = λ v g b h. words-of_input v b h }
     where
-      dealt-words : (v : ℕ) (b : Tapes) → Contents m (counts 2 0 0 0) b → AreWords m ((store m).result v b)
-      dealt-words v b h =
+      words-of_input : (v : ℕ) (b : Tapes) → Contents m (counts 2 0 0 0) b → SharesAreWords m ((store m).result v b)
+      words-of_input v b h =
           words-three (word_lt b.provider 0 (h Provider) (omega arith)) (word_lt b.provider 1 (h Provider) (omega arith)) (sub-lt m pos _ _)
 
-  reshare-counts : Counted m (reshare m) (AreWords m) (AreWords m) (counts 0 1 1 1) (received 1 1 1 0)
+  reshare-counts : HasCounts m (reshare m) (SharesAreWords m) (SharesAreWords m) (counts 0 1 1 1) (received_counts 1 1 1 0)
   unfolding reshare
   reshare-counts = record {
     drawn = refl;
@@ -166,7 +166,7 @@ module _ (m : ℕ) (pos : 0 < m) where
     made = λ s g b h. fresh-words m pos s (words b 0);
   }
 
-  opening-counts : Counted m (opening m) (AreWords m) (AreWords m) (counts 0 1 1 1) (received 1 1 1 3)
+  opening-counts : HasCounts m (opening m) (SharesAreWords m) (SharesAreWords m) (counts 0 1 1 1) (received_counts 1 1 1 3)
   unfolding opening
   opening-counts = record {
     drawn = refl;
@@ -176,7 +176,7 @@ module _ (m : ℕ) (pos : 0 < m) where
     made = λ s g b h. fresh-words m pos s (words b 0);
   }
 
-  multiply-counts : Counted m (multiply m) (OperandsAreWords m) (AreWords m) (counts 0 2 2 2) (received 4 4 4 0)
+  multiply-counts : HasCounts m (multiply m) (OperandsAreWords m) (SharesAreWords m) (counts 0 2 2 2) (received_counts 4 4 4 0)
   unfolding multiply
   multiply-counts = record {
     drawn = refl;
@@ -191,7 +191,7 @@ module _ (m : ℕ) (pos : 0 < m) where
 -- ---- Bit
 
 module _ (m : ℕ) (two-le : 2 ≤ m) where
-  bit-counts : (j : ℕ) → Counted m (bit m j) (AreWords m) (AreWords m) (counts 0 3 0 0) (received 0 3 3 0)
+  bit-counts : (j : ℕ) → HasCounts m (bit m j) (SharesAreWords m) (SharesAreWords m) (counts 0 3 0 0) (received_counts 0 3 3 0)
   unfolding bit
   bit-counts j = record {
     drawn = refl;
@@ -220,16 +220,16 @@ module _ (m : ℕ) (two-le : 2 ≤ m) where
 
 -- ---- what is held in the rounds of Bits and Equal: every share is a word
 
-pub record HeldWords (m : ℕ) (h : Held) : Type 0 where
-  pub p : AreWords m h.p
-  pub s : AreWords m h.s
-  pub q : AreWords m h.q
-  pub t : AreWords m h.t
-  pub base : AreWords m h.base
+pub record CarryStateWords (m : ℕ) (h : CarryState) : Type 0 where
+  pub p : SharesAreWords m h.p
+  pub s : SharesAreWords m h.s
+  pub q : SharesAreWords m h.q
+  pub t : SharesAreWords m h.t
+  pub base : SharesAreWords m h.base
 
-pub record FoldingWords (m : ℕ) (h : Folding) : Type 0 where
-  pub p : AreWords m h.p
-  pub q : AreWords m h.q
+pub record FoldStateWords (m : ℕ) (h : FoldState) : Type 0 where
+  pub p : SharesAreWords m h.p
+  pub q : SharesAreWords m h.q
 
 module _ (n : ℕ) where
   abbrev m : ℕ
@@ -243,19 +243,19 @@ module _ (n : ℕ) where
 
   -- ---- Bits
 
-  deal-counts : Counted m (deal n) (AreWords m) (DealtWords m) (counts 0 3 0 0) (received 0 2 2 0)
+  deal-counts : HasCounts m (deal n) (SharesAreWords m) (DealingWords m) (counts 0 3 0 0) (received_counts 0 2 2 0)
   unfolding deal
   deal-counts = record {
     drawn = refl;
     long = λ u t. own_long _;
     delivered = λ u g t h.
-        let d = dealt-words (width n) u t h in
+        let d = dealing-words (width n) u t h in
         followed_by_words (two-three-words (word_lt t.one 1 (h One) (omega arith)) (sub-lt m m_pos _ _))
         (two-three-words d.bar2 d.bar3);
-    made = λ u g t h. dealt-words (width n) u t h;
+    made = λ u g t h. dealing-words (width n) u t h;
   }
 
-  exchange-counts : Counted m (exchange n) (DealtWords m) (HeldWords m) (counts 0 2 2 2) (received 2 3 3 0)
+  exchange-counts : HasCounts m (exchange n) (DealingWords m) (CarryStateWords m) (counts 0 2 2 2) (received_counts 2 3 3 0)
   unfolding exchange
   exchange-counts = record {
     drawn = refl;
@@ -274,7 +274,7 @@ module _ (n : ℕ) where
         };
   }
 
-  round-counts : (k : ℕ) → Counted m (round n k) (HeldWords m) (HeldWords m) (counts 0 2 2 2) (received 4 4 4 0)
+  round-counts : (k : ℕ) → HasCounts m (round n k) (CarryStateWords m) (CarryStateWords m) (counts 0 2 2 2) (received_counts 4 4 4 0)
   unfolding round
   round-counts k = record {
     drawn = refl;
@@ -284,8 +284,8 @@ module _ (n : ℕ) where
         (followed_by_words (next_words (masked-words (width n) g.s g.t))
         (followed_by_words (next_words (drawn-words 0 (omega arith) c)) (next_words (drawn-words 1 (omega arith) c))));
     made = λ h g t c.
-        let p = masked h.p h.q in
-        let s = masked h.s h.t in
+        let p = masked_shares h.p h.q in
+        let s = masked_shares h.s h.t in
         record {
           p = words_of (λ i. round_p-lt (width n) k (at i p) (at (prev i) p));
           s = words_of (λ i. round_s-lt (width n) k (at i p) (at (prev i) p) (at i s) (at (prev i) s));
@@ -296,77 +296,77 @@ module _ (n : ℕ) where
   }
 
   pub rounds-counts : (k : ℕ)
-      → Counted (modulus n) (rounds n k) (AreWords (modulus n)) (HeldWords (modulus n))
-      (counts 0 (5 + 2 * k) (2 + 2 * k) (2 + 2 * k)) (received (2 + 4 * k) (5 + 4 * k) (5 + 4 * k) 0)
+      → HasCounts (modulus n) (rounds n k) (SharesAreWords (modulus n)) (CarryStateWords (modulus n))
+      (counts 0 (5 + 2 * k) (2 + 2 * k) (2 + 2 * k)) (received_counts (2 + 4 * k) (5 + 4 * k) (5 + 4 * k) 0)
   unfolding rounds
-  rounds-counts zero = counted_then deal-counts exchange-counts
-  rounds-counts (suc k) = counted_along (counted_then (rounds-counts k) (round-counts k)) (omega arith) (omega arith)
+  rounds-counts zero = counts_then deal-counts exchange-counts
+  rounds-counts (suc k) = counts_along (counts_then (rounds-counts k) (round-counts k)) (omega arith) (omega arith)
 
-  bits-counts : Counted m (bits n) (AreWords m) (AreWords m)
-      (counts 0 (5 + 2 * n) (2 + 2 * n) (2 + 2 * n)) (received (2 + 4 * n) (5 + 4 * n) (5 + 4 * n) 0)
+  bits-counts : HasCounts m (bits n) (SharesAreWords m) (SharesAreWords m)
+      (counts 0 (5 + 2 * n) (2 + 2 * n) (2 + 2 * n)) (received_counts (2 + 4 * n) (5 + 4 * n) (5 + 4 * n) 0)
   unfolding bits
-  bits-counts = counted_along (counted_then (rounds-counts n) (counted-locally joined_words)) (omega arith) (omega arith)
+  bits-counts = counts_along (counts_then (rounds-counts n) (counts-locally sum_bits-words)) (omega arith) (omega arith)
     where
-      joined_words : (h : Held) → HeldWords m h → AreWords m (joined (width n) h)
-      joined_words h g = words_of (λ i. xor_lt (width n) (up (width n) (at i h.s)) (at i h.base) (up_lt (width n) (at i h.s)) (g.base i))
+      sum_bits-words : (h : CarryState) → CarryStateWords m h → SharesAreWords m (sum_bits (width n) h)
+      sum_bits-words h g = words_of (λ i. xor_lt (width n) (shift_up (width n) (at i h.s)) (at i h.base) (up_lt (width n) (at i h.s)) (g.base i))
 
   -- ---- Equal
 
-  compare-counts : Counted m (compare n) (OperandsAreWords m) (AreWords m) (counts 0 1 0 0) (received 0 1 1 0)
+  compare-counts : HasCounts m (compare n) (OperandsAreWords m) (SharesAreWords m) (counts 0 1 0 0) (received_counts 0 1 1 0)
   unfolding compare
   compare-counts = record {
     drawn = refl;
     long = λ x t. own_long _;
     delivered = λ x g t h. two-three-words (word_lt t.one 0 (h One) (omega arith)) (sub-lt m m_pos (sub m x.u.one x.v.one) (word t one 0));
-    made = λ x g t h. compared-words m m_pos x t;
+    made = λ x g t h. comparison-words m m_pos x t;
   }
 
-  begin-counts : Counted m begin (AreWords m) (FoldingWords m) (counts 0 1 1 1) (received 1 1 1 0)
-  unfolding begin
-  begin-counts = record {
+  first_masks-counts : HasCounts m first_masks (SharesAreWords m) (FoldStateWords m) (counts 0 1 1 1) (received_counts 1 1 1 0)
+  unfolding first_masks
+  first_masks-counts = record {
     drawn = refl;
     long = λ p t. own_long _;
     delivered = λ p g t h. next_words (drawn-words 0 (omega arith) h);
     made = λ p g t h. record { p = g; q = drawn-words 0 (omega arith) h };
   }
 
-  fold-counts : (k : ℕ) → Counted m (fold n k) (FoldingWords m) (FoldingWords m) (counts 0 1 1 1) (received 2 2 2 0)
+  fold-counts : (k : ℕ) → HasCounts m (fold n k) (FoldStateWords m) (FoldStateWords m) (counts 0 1 1 1) (received_counts 2 2 2 0)
   unfolding fold
   fold-counts k = record {
     drawn = refl;
     long = λ h t. own_long _;
     delivered = λ h g t c. followed_by_words (next_words (masked-words (width n) g.p g.q)) (next_words (drawn-words 0 (omega arith) c));
     made = λ h g t c.
-        let p = masked h.p h.q in
+        let p = masked_shares h.p h.q in
         record { p = words_of (λ i. fold_share-lt (width n) k (at i p) (at (prev i) p)); q = drawn-words 0 (omega arith) c };
   }
 
   pub folds-counts : (k : ℕ)
-      → Counted (modulus n) (folds n k) (OperandsAreWords (modulus n)) (FoldingWords (modulus n))
-      (counts 0 (2 + k) (1 + k) (1 + k)) (received (1 + 2 * k) (2 + 2 * k) (2 + 2 * k) 0)
+      → HasCounts (modulus n) (folds n k) (OperandsAreWords (modulus n)) (FoldStateWords (modulus n))
+      (counts 0 (2 + k) (1 + k) (1 + k)) (received_counts (1 + 2 * k) (2 + 2 * k) (2 + 2 * k) 0)
   unfolding folds
-  folds-counts zero = counted_then compare-counts begin-counts
-  folds-counts (suc k) = counted_along (counted_then (folds-counts k) (fold-counts k)) (omega arith) (omega arith)
+  folds-counts zero = counts_then compare-counts first_masks-counts
+  folds-counts (suc k) = counts_along (counts_then (folds-counts k) (fold-counts k)) (omega arith) (omega arith)
 
-  equal-counts : Counted m (equal n) (OperandsAreWords m) (AreWords m)
-      (counts 0 (5 + n) (1 + n) (1 + n)) (received (1 + 2 * n) (5 + 2 * n) (5 + 2 * n) 0)
+  equal-counts : HasCounts m (equal n) (OperandsAreWords m) (SharesAreWords m)
+      (counts 0 (5 + n) (1 + n) (1 + n)) (received_counts (1 + 2 * n) (5 + 2 * n) (5 + 2 * n) 0)
   unfolding equal
   equal-counts =
-      counted_along (counted_then (folds-counts n) (counted_then (counted-locally (λ h g. g.p)) (bit-counts m two-le 0))) (omega arith) (omega arith)
+      counts_along (counts_then (folds-counts n) (counts_then (counts-locally (λ h g. g.p)) (bit-counts m two-le 0))) (omega arith) (omega arith)
 
-  -- ---- the table
+  -- ---- the rows
 
-  difference-counts : Counted m (locally (difference m)) (OperandsAreWords m) (AreWords m) (counts 0 0 0 0) (received 0 0 0 0)
-  difference-counts = counted-locally (λ x g. difference-words m m_pos x)
+  difference-counts : HasCounts m (locally (difference m)) (OperandsAreWords m) (SharesAreWords m) (counts 0 0 0 0) (received_counts 0 0 0 0)
+  difference-counts = counts-locally (λ x g. difference-words m m_pos x)
 
-  pub table : Table n
+  pub rows : Rows n
   unfolding below
-  table = record {
+  rows = record {
     store_row = store-counts m m_pos;
-    sum_row = counted-locally (λ x g. words_of (λ i. add-lt m m_pos (at i x.u) (at i x.v)));
+    sum_row = counts-locally (λ x g. words_of (λ i. add-lt m m_pos (at i x.u) (at i x.v)));
     difference_row = difference-counts;
-    shifted_row = λ c. counted-locally (λ u g. words-three (add-lt m m_pos u.one c) (g two) (g three));
-    multiple_row = λ c. counted-locally (λ u g. words_of (λ i. mul-lt m m_pos (at i u) c));
+    constant_sum_row = λ c. counts-locally (λ u g. words-three (add-lt m m_pos u.one c) (g two) (g three));
+    constant_multiple_row = λ c. counts-locally (λ u g. words_of (λ i. mul-lt m m_pos (at i u) c));
     multiply_row = multiply-counts m m_pos;
     reshare_row = reshare-counts m m_pos;
     bits_row = bits-counts;
@@ -374,8 +374,8 @@ module _ (n : ℕ) where
     equal_row = equal-counts;
     opening_row = opening-counts m m_pos;
     below_row =
-        counted_along (counted_then difference-counts (counted_then bits-counts (bit-counts m two-le (width n - 1)))) (omega arith) (omega arith);
+        counts_along (counts_then difference-counts (counts_then bits-counts (bit-counts m two-le (width n - 1)))) (omega arith) (omega arith);
   }
 
-pub table_at_32 : TableAt32
-table_at_32 = record { bits_row = (table 5).bits_row; equal_row = (table 5).equal_row; below_row = (table 5).below_row }
+pub rows_at_32 : RowsAt32
+rows_at_32 = record { bits_row = (rows 5).bits_row; equal_row = (rows 5).equal_row; below_row = (rows 5).below_row }

@@ -13,7 +13,7 @@ use Rattle.protocols.specs.declared.shares.Shares.{Shares}
 use Rattle.protocols.proofs.Laws.Blocks.{tapes_ext}
 use Rattle.protocols.specs.Claims.{DrawIs}
 use Rattle.protocols.specs.Draws.{draw_part, draw_each, draw_pairs, draw_block}
-use Rattle.protocols.specs.Place.{Tapes, tapes, tape, words, counts, count, with_count, plus, cut, rest, advance, moved, Draw, draw_of, spent_draw, draw, every, has, enough, block}
+use Rattle.protocols.specs.Place.{Tapes, tapes, tape, words, counts, count, with_count, plus, cut, rest, advance, after_draw, Draw, draw_of, spent_draw, draw, every_party, tape_has, enough, block}
 
 -- ---- tests of every party
 
@@ -33,28 +33,28 @@ and_pairs a b c d a' b' c' d' =
 
 -- ---- whether every tape has enough
 
-every_true : (f : Party → Bool) → ((i : Party) → f i ≡ true) → every f ≡ true
+every_true : (f : Party → Bool) → ((i : Party) → f i ≡ true) → every_party f ≡ true
 every_true f h = rw (h Provider, h One, h Two, h Three)
 
-every_false : (f : Party → Bool) (i : Party) → f i ≡ false → every f ≡ false
+every_false : (f : Party → Bool) (i : Party) → f i ≡ false → every_party f ≡ false
 every_false f Provider e = rw e
 every_false f One e = rw e (and-false (f Provider))
 every_false f Two e = rw e (ap (◌&&◌ (f Provider)) (and-false (f One)) ∙ and-false (f Provider))
 every_false f Three e = rw e (ap (◌&&◌ (f Provider)) (ap (◌&&◌ (f One)) (and-false (f Two)) ∙ and-false (f One)) ∙ and-false (f Provider))
 
-every-same : (f g : Party → Bool) → ((i : Party) → f i ≡ g i) → every f ≡ every g
+every-same : (f g : Party → Bool) → ((i : Party) → f i ≡ g i) → every_party f ≡ every_party g
 every-same f g h = rw (h Provider, h One, h Two, h Three)
 
-every-and : (f g : Party → Bool) → every (λ i. f i && g i) ≡ every f && every g
+every-and : (f g : Party → Bool) → every_party (λ i. f i && g i) ≡ every_party f && every_party g
 every-and f g = and_pairs (f Provider) (f One) (f Two) (f Three) (g Provider) (g One) (g Two) (g Three)
 
 pub enough_true : (n : Drawn) (p : Place) (t : Tapes) → ((i : Party) → count i n ≤ length (tape i t) - count i p.drawn) → enough n p t ≡ true
 unfolding enough
-enough_true n p t h = every_true (has n p t) (λ i. le-leb (count i n) (length (tape i t) - count i p.drawn) (h i))
+enough_true n p t h = every_true (tape_has n p t) (λ i. le-leb (count i n) (length (tape i t) - count i p.drawn) (h i))
 
 pub enough_false : (n : Drawn) (p : Place) (t : Tapes) (i : Party) → length (tape i t) - count i p.drawn < count i n → enough n p t ≡ false
 unfolding enough
-enough_false n p t i h = every_false (has n p t) i (lt-leb (count i n) (length (tape i t) - count i p.drawn) h)
+enough_false n p t i h = every_false (tape_has n p t) i (lt-leb (count i n) (length (tape i t) - count i p.drawn) h)
 
 -- the miners' tapes alone
 pub enough_miners : (a b c : ℕ) (p : Place) (t : Tapes)
@@ -70,9 +70,9 @@ Agree n t t' = (i : Party) → 0 < count i n → tape i t ≡ tape i t'
 
 pub enough_agree : (n : Drawn) (p : Place) (t t' : Tapes) → Agree n t t' → enough n p t ≡ enough n p t'
 unfolding enough
-enough_agree n p t t' h = every-same (has n p t) (has n p t') (λ i. go i (count i n) refl)
+enough_agree n p t t' h = every-same (tape_has n p t) (tape_has n p t') (λ i. go i (count i n) refl)
   where
-    go : (i : Party) (k : ℕ) → count i n ≡ k → has n p t i ≡ has n p t' i
+    go : (i : Party) (k : ℕ) → count i n ≡ k → tape_has n p t i ≡ tape_has n p t' i
     go i zero e = rw (e, leb-zero, leb-zero)
     go i (suc k) e = ap (λ (l : List ℕ). leb (count i n) (length l - count i p.drawn)) (h i (omega (arith, e)))
 
@@ -103,9 +103,9 @@ nat_le-plus a b l d = go (leb a (l - d)) refl (leb b (l - (d + a))) refl
 pub enough-plus : (n k : Drawn) (p : Place) (t : Tapes) → enough (plus n k) p t ≡ enough n p t && enough k (advance p n) t
 unfolding enough
 enough-plus n k p t =
-    every-same (has (plus n k) p t) (λ i. has n p t i && has k (advance p n) t i) each ∙ every-and (has n p t) (has k (advance p n) t)
+    every-same (tape_has (plus n k) p t) (λ i. tape_has n p t i && tape_has k (advance p n) t i) each ∙ every-and (tape_has n p t) (tape_has k (advance p n) t)
   where
-    each : (i : Party) → has (plus n k) p t i ≡ has n p t i && has k (advance p n) t i
+    each : (i : Party) → tape_has (plus n k) p t i ≡ tape_has n p t i && tape_has k (advance p n) t i
     each Provider = nat_le-plus n.provider k.provider (length t.provider) p.drawn.provider
     each One = nat_le-plus n.one k.one (length t.one) p.drawn.one
     each Two = nat_le-plus n.two k.two (length t.two) p.drawn.two
@@ -186,7 +186,7 @@ module _ (k : ℕ) (i : Party) (l : List ℕ) (p : Place) where
   unfolding draw
   draw_none h = rw (lt-leb k (length l - count i p.drawn) (omega (arith, h, length-drop (count i p.drawn) l)))
 
-  pub draw_some : k ≤ length (drop (count i p.drawn) l) → draw k i l p ≡ draw_of (take k (drop (count i p.drawn) l)) (moved k i p)
+  pub draw_some : k ≤ length (drop (count i p.drawn) l) → draw k i l p ≡ draw_of (take k (drop (count i p.drawn) l)) (after_draw k i p)
   unfolding draw
   draw_some h = rw (le-leb k (length l - count i p.drawn) (omega (arith, h, length-drop (count i p.drawn) l)))
 
@@ -244,7 +244,7 @@ module _ (p : Place) (t : Tapes) where
   block_only Two k = refl
   block_only Three k = refl
 
-  pub advance_only : (i : Party) (k : ℕ) → advance p (only i k) ≡ moved k i p
+  pub advance_only : (i : Party) (k : ℕ) → advance p (only i k) ≡ after_draw k i p
   advance_only Provider k = cc (add-zero p.drawn.one, add-zero p.drawn.two, add-zero p.drawn.three)
   advance_only One k = cc (add-zero p.drawn.provider, add-zero p.drawn.two, add-zero p.drawn.three)
   advance_only Two k = cc (add-zero p.drawn.provider, add-zero p.drawn.one, add-zero p.drawn.three)

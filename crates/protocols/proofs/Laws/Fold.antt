@@ -1,4 +1,4 @@
--- The rounds of Equal on plain words: bit 0 tells whether every bit is set. (000, algorithm 5)
+-- The rounds of Equal on plain words: bit 0 tells whether every bit is set.
 use Rattle.std.proofs.Common.{◌≡◌, ℕ, zero, suc, ◌+◌, ◌-◌, ◌*◌, ◌/◌, ◌%◌, ◌^◌, ◌<◌, ◌≤◌, cond, eqb, sym, refl, ap, ◌∙◌, ap₂, mod-lt, mod-eq_of_lt, div-one, one-add, arith, pow_pos, shr-shr, eq-eqb, ne_eqb}
 use native.Mathlib.Nat.{zero-mod, add-mod_right, two-pow-succ}
 use native.Mathlib.Decide.{ℕ_discrete}

@@ -2,18 +2,19 @@
 use Rattle.std.proofs.Common.{◌≡◌, ℕ, ◌+◌, ◌-◌, ◌≤◌, Bool, true, false, cond, ◌&&◌, leb, List, length, take, drop, refl, ap, ◌∙◌, ap₂, append-nil, add-zero, add-one, arith, length-append}
 use Rattle.protocols.specs.declared.place.Party.{Party}
 use Rattle.protocols.specs.declared.place.Party.TheVariants.{Provider, One, Two, Three}
-use Rattle.protocols.specs.Outcome.{finished, delivered, delivery, fronts, puts}
+use Rattle.protocols.specs.Outcome.{success, delivery_of, delivery, with_fronts}
 use Rattle.protocols.proofs.Laws.Deliveries.{fronts_puts, room_true}
 use Rattle.protocols.specs.declared.place.Received.{Received}
-use Rattle.protocols.specs.Counts.{due}
+use Rattle.protocols.specs.Counts.{count_for}
 use Rattle.protocols.specs.declared.place.Drawn.{Drawn}
 use Rattle.protocols.specs.declared.place.Place.{Place}
 use Rattle.protocols.specs.declared.shares.Shares.{Shares}
 use Rattle.protocols.specs.Shares.{one, two, three}
-use Rattle.protocols.specs.Place.{Tapes, Lists, lists, Receiver, miner, controller, list, words, tape, count, counts, plus, cut, rest, advance, moved, Draw, draw_of, spent_draw, draw, enough, block, ◌followed_by◌, silence}
+use Rattle.protocols.specs.Place.{Tapes, Lists, lists, Receiver, miner, controller, list, words, tape, count, counts, plus, cut, rest, advance, after_draw, Draw, draw_of, spent_draw, draw, enough, block, ◌followed_by◌, silence}
 use Rattle.protocols.specs.Draws.{draw_each, draw_pairs}
-use Rattle.protocols.specs.Protocol.{Protocol, ◌then◌, repeated, locally, on, Answer, done, spent, perform}
+use Rattle.protocols.specs.Protocol.{Protocol, ◌then◌, with_rounds, locally, from_part, ProtocolAnswer, done, spent, perform}
 use Rattle.protocols.specs.Claims.{OnTapes}
+use Rattle.protocols.specs.Private.Lending.{with_words_at}
 use Rattle.protocols.proofs.Laws.Draws.{after, only, enough_only, block_only, advance_only, enough_true, enough_false, Agree, enough_agree, block_agree, enough-plus, cut-block, rest-block, advance-plus}
 
 -- ---- a protocol by its draws
@@ -65,7 +66,7 @@ module _ {S T : Type 0} where
       w : List ℕ
       w = take k (drop (count i p.drawn) (tape i t))
 
-      go : (e : Bool) → cond e (done (R s w) (L s w) (moved k i p)) spent ≡ after {T = List ℕ} (cond e (draw_of w (moved k i p)) (spent_draw p)) (λ w q. done (R s w) (L s w) q) spent
+      go : (e : Bool) → cond e (done (R s w) (L s w) (after_draw k i p)) spent ≡ after {T = List ℕ} (cond e (draw_of w (after_draw k i p)) (spent_draw p)) (λ w q. done (R s w) (L s w) q) spent
       go true = refl
       go false = refl
 
@@ -80,23 +81,23 @@ module _ {S T : Type 0} (f : Protocol S T) (s : S) (p : Place) (t : Tapes) where
 -- ---- one protocol after another
 
 -- what follows an answer, and words before an answer's
-abbrev pub and_then : {S T : Type 0} → Answer S → (S → Lists → Place → Answer T) → Answer T
+abbrev pub and_then : {S T : Type 0} → ProtocolAnswer S → (S → Lists → Place → ProtocolAnswer T) → ProtocolAnswer T
 and_then (done s l q) k = k s l q
 and_then spent k = spent
 
-abbrev pub preceded : {T : Type 0} → Lists → Answer T → Answer T
-preceded l (done s k q) = done s (l followed_by k) q
-preceded l spent = spent
+abbrev pub words_before : {T : Type 0} → Lists → ProtocolAnswer T → ProtocolAnswer T
+words_before l (done s k q) = done s (l followed_by k) q
+words_before l spent = spent
 
 module _ {S T Z : Type 0} (f : Protocol S T) (g : Protocol T Z) (s : S) (p : Place) (t : Tapes) where
   -- both done, on their two blocks
-  both-done : Tapes → Tapes → Place → Answer Z
+  both-done : Tapes → Tapes → Place → ProtocolAnswer Z
   both-done b d q = done (g.result (f.result s b) d) (f.received s b followed_by g.received (f.result s b) d) q
 
-  pub perform_then : perform (f then g) s p t ≡ and_then (perform f s p t) (λ x l q. preceded l (perform g x q t))
+  pub perform_then : perform (f then g) s p t ≡ and_then (perform f s p t) (λ x l q. words_before l (perform g x q t))
   unfolding perform ◌then◌ both-done
   perform_then =
-      ap₂ (λ (e : Bool) (y : Answer Z). cond e y spent) (enough-plus f.draws g.draws p t) blocks ∙ first (enough f.draws p t)
+      ap₂ (λ (e : Bool) (y : ProtocolAnswer Z). cond e y spent) (enough-plus f.draws g.draws p t) blocks ∙ first (enough f.draws p t)
     where
       b : Tapes
       b = block f.draws p t
@@ -114,12 +115,12 @@ module _ {S T Z : Type 0} (f : Protocol S T) (g : Protocol T Z) (s : S) (p : Pla
       blocks = cc (cut-block f.draws g.draws p t, rest-block f.draws g.draws p t, advance-plus f.draws g.draws p)
 
       second : (c : Bool) → cond c (both-done b d (advance q g.draws)) spent
-          ≡ preceded (f.received s b) (cond c (done (g.result (f.result s b) d) (g.received (f.result s b) d) (advance q g.draws)) spent)
+          ≡ words_before (f.received s b) (cond c (done (g.result (f.result s b) d) (g.received (f.result s b) d) (advance q g.draws)) spent)
       second true = refl
       second false = refl
 
       first : (a : Bool) → cond (a && enough g.draws q t) (both-done b d (advance q g.draws)) spent
-          ≡ and_then (cond a (done (f.result s b) (f.received s b) q) spent) (λ x l q. preceded l (perform g x q t))
+          ≡ and_then (cond a (done (f.result s b) (f.received s b) q) spent) (λ x l q. words_before l (perform g x q t))
       first true = second (enough g.draws q t)
       first false = refl
 
@@ -144,14 +145,14 @@ perform-locally f s p t =
 
 module _ {S T Z : Type 0} (f : Protocol S T) (g : Protocol T Z) (s : S) (p : Place) (t : Tapes) where
   -- from a part that is done the whole goes on
-  pub then_done : {x : T} {l : Lists} {q : Place} → perform f s p t ≡ done x l q → perform (f then g) s p t ≡ preceded l (perform g x q t)
-  then_done e = perform_then f g s p t ∙ ap (λ (a : Answer T). and_then a (λ x l q. preceded l (perform g x q t))) e
+  pub then_done : {x : T} {l : Lists} {q : Place} → perform f s p t ≡ done x l q → perform (f then g) s p t ≡ words_before l (perform g x q t)
+  then_done e = perform_then f g s p t ∙ ap (λ (a : ProtocolAnswer T). and_then a (λ x l q. words_before l (perform g x q t))) e
 
 -- ---- tapes that are not drawn from
 
-pub perform-on : {S T Z : Type 0} (part : S → T) (f : Protocol T Z) (s : S) (p : Place) (t : Tapes) → perform (on part f) s p t ≡ perform f (part s) p t
+pub perform-from_part : {S T Z : Type 0} (part : S → T) (f : Protocol T Z) (s : S) (p : Place) (t : Tapes) → perform (from_part part f) s p t ≡ perform f (part s) p t
 unfolding perform
-perform-on part f s p t = refl
+perform-from_part part f s p t = refl
 
 pub perform_agree : {S T : Type 0} (f : Protocol S T) (s : S) (p : Place) (t t' : Tapes) → Agree f.draws t t' → perform f s p t ≡ perform f s p t'
 unfolding perform
@@ -163,26 +164,26 @@ pub followed_by_silence : (l : Lists) → l followed_by silence ≡ l
 followed_by_silence l = λ i. lists (append-nil l.one i) (append-nil l.two i) (append-nil l.three i) (append-nil l.controller i)
 
 -- f is done: the miners hold x, its words, k of them, have made l of the lists l₀, and the place is q
-pub record Performed {S T : Type 0} (f : Protocol S T) (s : S) (p : Place) (t : Tapes) (l₀ : Lists) (x : T) (l : Lists) (k : Received) (q : Place) : Type 0 where
+pub record Performance {S T : Type 0} (f : Protocol S T) (s : S) (p : Place) (t : Tapes) (l₀ : Lists) (x : T) (l : Lists) (k : Received) (q : Place) : Type 0 where
   pub words : Lists
   pub is : perform f s p t ≡ done x words q
-  pub are : l ≡ fronts l₀ words
-  pub long : (r : Receiver) → length (list r words) ≡ due r k
+  pub are : l ≡ with_fronts l₀ words
+  pub long : (r : Receiver) → length (list r words) ≡ count_for r k
 
 -- ---- rounds
 
 module _ {S T : Type 0} (f : Protocol S T) (g : ℕ → Protocol T T) (s : S) (p : Place) (t : Tapes) where
-  module _ (k : ℕ) {l₀ l : Lists} {h : T} {n : Received} {q : Place} (d : Performed (repeated f g k) s p t l₀ h l n q) where
-    pub round-done : {x : T} (w : Lists) {q' : Place} → perform (g k) h q t ≡ done x w q' → (l' : Lists) → l' ≡ puts n l w
-        → (j : Received) → ((r : Receiver) → due r n + length (list r w) ≡ due r j) → Performed (repeated f g (k + 1)) s p t l₀ x l' j q'
+  module _ (k : ℕ) {l₀ l : Lists} {h : T} {n : Received} {q : Place} (d : Performance (with_rounds f g k) s p t l₀ h l n q) where
+    pub round-done : {x : T} (w : Lists) {q' : Place} → perform (g k) h q t ≡ done x w q' → (l' : Lists) → l' ≡ with_words_at n l w
+        → (j : Received) → ((r : Receiver) → count_for r n + length (list r w) ≡ count_for r j) → Performance (with_rounds f g (k + 1)) s p t l₀ x l' j q'
     round-done w e l' a j c = record {
       words = d.words followed_by w;
-      is = rw add-one (then_done (repeated f g k) (g k) s p t d.is ∙ rw e);
+      is = rw add-one (then_done (with_rounds f g k) (g k) s p t d.is ∙ rw e);
       are = a ∙ rw d.are (fronts_puts l₀ d.words w n d.long);
       long = λ r. longer r;
     }
       where
-        longer : (r : Receiver) → length (list r (d.words followed_by w)) ≡ due r j
+        longer : (r : Receiver) → length (list r (d.words followed_by w)) ≡ count_for r j
         longer (miner one) = omega (arith, length-append d.words.one w.one, d.long (miner one), c (miner one))
         longer (miner two) = omega (arith, length-append d.words.two w.two, d.long (miner two), c (miner two))
         longer (miner three) = omega (arith, length-append d.words.three w.three, d.long (miner three), c (miner three))
@@ -192,7 +193,7 @@ module _ {S T : Type 0} (f : Protocol S T) (g : ℕ → Protocol T T) (s : S) (p
 
 -- the delivery of a protocol that is done, where every list has room
 pub delivery-done : {S : Type 0} (f : Protocol S Shares) (s : S) (p : Place) (t : Tapes) {l₀ l : Lists} {x : Shares} {k : Received} {q : Place}
-    → Performed f s p t l₀ x l k q → ((r : Receiver) → due r k ≤ length (list r l₀)) → delivered (finished x q) l ≡ delivery p (perform f s p t) l₀
+    → Performance f s p t l₀ x l k q → ((r : Receiver) → count_for r k ≤ length (list r l₀)) → delivery_of (success x q) l ≡ delivery p (perform f s p t) l₀
 delivery-done f s p t {l₀ = l₀} d h = rw (d.is, d.are, room_true l₀ d.words (λ r. omega (arith, d.long r, h r)))
 
 -- ---- done or spent, exactly

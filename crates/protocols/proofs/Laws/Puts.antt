@@ -4,9 +4,8 @@ use lib.Seq.{sets, sets-eq}
 use Rattle.std.proofs.lemmas.List.{map-append, length-map, take_more}
 use Rattle.protocols.specs.declared.shares.Shares.{Shares}
 use Rattle.protocols.specs.Place.{Lists, lists}
-use Rattle.protocols.specs.Counts.{received}
-use Rattle.protocols.specs.Outcome.{puts}
-use Rattle.protocols.specs.Lent.{to_next_in_order}
+use Rattle.protocols.specs.Counts.{received_counts}
+use Rattle.protocols.specs.Private.Lending.{to_next_in_order, with_words_at}
 
 -- ---- word by word
 
@@ -48,10 +47,10 @@ put_next l at k w z g h =
 
 -- in the lists of all miners: each one's next word to the next miner
 pub puts_next : (first at k : ℕ) (w : List Shares) (z : Shares) (l₀ l : Lists) → k < length w
-    → l ≡ puts (received first at at 0) l₀ (to_next_in_order (take k w))
+    → l ≡ with_words_at (received_counts first at at 0) l₀ (to_next_in_order (take k w))
     → let x = get_or w k z in
     lists (set l.one (first + k) x.three) (set l.two (at + k) x.one) (set l.three (at + k) x.two) l.controller
-    ≡ puts (received first at at 0) l₀ (to_next_in_order (take (k + 1) w))
+    ≡ with_words_at (received_counts first at at 0) l₀ (to_next_in_order (take (k + 1) w))
 puts_next first at k w z l₀ l h e =
     ap (λ (l : Lists). lists (set l.one (first + k) (get_or w k z).three) (set l.two (at + k) (get_or w k z).one) (set l.three (at + k) (get_or w k z).two) l.controller) e
     ∙ (λ i. lists (put_next l₀.one first k w z (λ (x : Shares). x.three) h i) (put_next l₀.two at k w z (λ (x : Shares). x.one) h i)

@@ -4,9 +4,9 @@ use Rattle.protocols.specs.declared.shares.Shares.{Shares}
 use Rattle.protocols.specs.Word.{add, sub, mul}
 use Rattle.protocols.specs.Shares.{Operands, sum_of}
 use Rattle.protocols.specs.Place.{Tapes, words}
-use Rattle.protocols.specs.Store.{store, dealt}
-use Rattle.protocols.specs.Local.{sum, difference, multiple, shifted}
-use Rattle.protocols.specs.Reshare.{fresh, reshare}
+use Rattle.protocols.specs.Store.{store, dealt_shares}
+use Rattle.protocols.specs.Local.{sum, difference, constant_multiple, constant_sum}
+use Rattle.protocols.specs.Reshare.{fresh_shares, reshare}
 use Rattle.protocols.specs.Multiply.{product, masked_u, masked_v, multiply}
 use Rattle.protocols.specs.Open.{opening}
 use Rattle.protocols.specs.Claims.{RingCombines}
@@ -33,11 +33,11 @@ module _ (m : ℕ) (pos : 0 < m) where
 
   -- ---- shares of a word, fresh shares, and shares changed miner by miner
 
-  dealt-sum : (v : ℕ) → v < m → (b : Tapes) → sum_of m (dealt m v b) ≡ v
-  dealt-sum v h b =
+  dealt_shares-sum : (v : ℕ) → v < m → (b : Tapes) → sum_of m (dealt_shares m v b) ≡ v
+  dealt_shares-sum v h b =
       let (q, k, e) = sub_r m pos v (get_or b.provider 0 0) in
       let (q', k', e') = sub_r m pos (sub m v (get_or b.provider 0 0)) (get_or b.provider 1 0) in
-      sum_is (dealt m v b) v (q + q') (k + k') h (omega (arith, e, e'))
+      sum_is (dealt_shares m v b) v (q + q') (k + k') h (omega (arith, e, e'))
 
   -- one fresh share
   fresh_r : (s r r' : ℕ) → (q : ℕ) × (k : ℕ) × (q * m + sub m (add m s r) r' + r' ≡ s + r + k * m)
@@ -46,13 +46,13 @@ module _ (m : ℕ) (pos : 0 < m) where
       let (q', k, e') = sub_r m pos (add m s r) r' in
       (q + q', k, omega (arith, e, e'))
 
-  pub fresh-sum : (s r : Shares) → sum_of m (fresh m s r) ≡ sum_of m s
+  pub fresh-sum : (s r : Shares) → sum_of m (fresh_shares m s r) ≡ sum_of m s
   fresh-sum s r =
       let (q, e) = sum_r s in
       let (q₁, k₁, e₁) = fresh_r s.one r.one r.three in
       let (q₂, k₂, e₂) = fresh_r s.two r.two r.one in
       let (q₃, k₃, e₃) = fresh_r s.three r.three r.two in
-      sum_is (fresh m s r) (sum_of m s) (q₁ + q₂ + q₃) (q + k₁ + k₂ + k₃) (sum_lt s) (omega (arith, e, e₁, e₂, e₃))
+      sum_is (fresh_shares m s r) (sum_of m s) (q₁ + q₂ + q₃) (q + k₁ + k₂ + k₃) (sum_lt s) (omega (arith, e, e₁, e₂, e₃))
 
   sum-sum : (x : Operands) → sum_of m (sum m x) ≡ add m (sum_of m x.u) (sum_of m x.v)
   sum-sum x =
@@ -75,21 +75,21 @@ module _ (m : ℕ) (pos : 0 < m) where
       sum_is (difference m x) (sub m (sum_of m x.u) (sum_of m x.v)) (q₁ + q₂ + q₃ + b + k) (a + q + k₁ + k₂ + k₃) (sub-lt m pos _ _)
       (omega (arith, e₁, e₂, e₃, f, g, h))
 
-  shifted_sum : (c : ℕ) (u : Shares) → sum_of m (shifted m c u) ≡ add m (sum_of m u) c
+  shifted_sum : (c : ℕ) (u : Shares) → sum_of m (constant_sum m c u) ≡ add m (sum_of m u) c
   shifted_sum c u =
       let (a, f) = sum_r u in
       let (q, e) = add_r m pos u.one c in
       let (k, h) = add_r m pos (sum_of m u) c in
-      sum_is (shifted m c u) (add m (sum_of m u) c) q (a + k) (add-lt m pos _ _) (omega (arith, e, f, h))
+      sum_is (constant_sum m c u) (add m (sum_of m u) c) q (a + k) (add-lt m pos _ _) (omega (arith, e, f, h))
 
-  multiple-sum : (c : ℕ) (u : Shares) → sum_of m (multiple m c u) ≡ mul m (sum_of m u) c
+  multiple-sum : (c : ℕ) (u : Shares) → sum_of m (constant_multiple m c u) ≡ mul m (sum_of m u) c
   multiple-sum c u =
       let (a, f) = sum_r u in
       let (q₁, e₁) = mul_r m pos u.one c in
       let (q₂, e₂) = mul_r m pos u.two c in
       let (q₃, e₃) = mul_r m pos u.three c in
       let (k, h) = mul_r m pos (sum_of m u) c in
-      sum_is (multiple m c u) (mul m (sum_of m u) c) (q₁ + q₂ + q₃) (a * c + k) (mul-lt m pos _ _)
+      sum_is (constant_multiple m c u) (mul m (sum_of m u) c) (q₁ + q₂ + q₃) (a * c + k) (mul-lt m pos _ _)
       (omega (arith, e₁, e₂, e₃, h, ap (λ (n : ℕ). n * c) f))
 
   -- ---- the product's nine terms
@@ -124,11 +124,11 @@ module _ (m : ℕ) (pos : 0 < m) where
   pub ring_combines : RingCombines m
   unfolding store reshare multiply opening
   ring_combines = record {
-    store_combines = dealt-sum;
+    store_combines = dealt_shares-sum;
     sum_combines = sum-sum;
     difference_combines = difference-sum;
-    shifted_combines = shifted_sum;
-    multiple_combines = multiple-sum;
+    constant_sum_combines = shifted_sum;
+    constant_multiple_combines = multiple-sum;
     reshare_combines = λ u b. fresh-sum u (words b 0);
     multiply_combines = λ x b.
         product-sum (masked_u m x b) (masked_v m x b) ∙ ap₂ (mul m) (fresh-sum x.u (words b 0)) (fresh-sum x.v (words b 1));

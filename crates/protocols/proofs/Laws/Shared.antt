@@ -3,12 +3,12 @@ use Rattle.std.proofs.Common.{◌≡◌, ℕ, zero, suc, ◌*◌, ◌%◌, ◌^�
 use mathlib.Core.Path.{fun_ext}
 use lib.Bits.{bit_xor, bit_and, xor_lt, and_le_r, xor_self, xor_zero_r, xor_mod, xor_block, and_zero_r}
 use Rattle.protocols.specs.declared.shares.Shares.{Shares}
-use Rattle.protocols.specs.declared.bits.Held.{Held}
-use Rattle.protocols.specs.Word.{bit_at, of_bits, up, choose}
-use Rattle.protocols.specs.Shares.{Miner, one, two, three, prev, at, each, xor_of, AreWords}
-use Rattle.protocols.specs.Masked.{masked, and_share}
+use Rattle.protocols.specs.declared.bits.CarryState.{CarryState}
+use Rattle.protocols.specs.Word.{bit_at, of_bits, shift_up, choose}
+use Rattle.protocols.specs.Shares.{Miner, one, two, three, prev, at, each, xor_of, SharesAreWords}
+use Rattle.protocols.specs.Masked.{masked_shares, and_share}
 use Rattle.protocols.specs.Bit.{bits_at}
-use Rattle.protocols.specs.Bits.{round_s_at, round_p_at, source, round_s, round_p, joined}
+use Rattle.protocols.specs.Bits.{round_s_at, round_p_at, source, round_s, round_p, sum_bits}
 use Rattle.protocols.specs.Equal.{fold_at, fold_share}
 use Rattle.protocols.proofs.Laws.Bitwise.{bit-lt, bit_zero, choose-lt, bit_at-xor, bit_at-and, xor_cancel_l, and_xor, xor-and, xor·ac, of_bits-lt, bit_of, xor-of_bits}
 
@@ -28,7 +28,7 @@ and_share_zero a i b j = simp (bit_zero, and_zero_r, xor_zero_r)
 
 -- ---- what shares combine to
 
-pub xor_of-lt : (w : ℕ) (s : Shares) → AreWords (2 ^ w) s → xor_of s < 2 ^ w
+pub xor_of-lt : (w : ℕ) (s : Shares) → SharesAreWords (2 ^ w) s → xor_of s < 2 ^ w
 unfolding xor_of
 xor_of-lt w s h = xor_lt w (bit_xor s.one s.two) s.three (xor_lt w s.one s.two (h one) (h two)) (h three)
 
@@ -40,7 +40,7 @@ xor-bits_at j u = simp bit_at-xor
 masks_cancel : (a b c x y z : ℕ) → bit_xor (bit_xor (bit_xor (bit_xor a x) z) (bit_xor (bit_xor b y) x)) (bit_xor (bit_xor c z) y) ≡ bit_xor (bit_xor a b) c
 masks_cancel a b c x y z = simp (xor·ac, xor_self, xor_cancel_l)
 
-pub xor_masked : (p q : Shares) → xor_of (masked p q) ≡ xor_of p
+pub xor_masked : (p q : Shares) → xor_of (masked_shares p q) ≡ xor_of p
 unfolding xor_of
 xor_masked p q = masks_cancel p.one p.two p.three q.one q.two q.three
 
@@ -154,20 +154,20 @@ module _ (w k : ℕ) (p : Shares) where
 
 -- ---- shifted up by one
 
-pub up_lt : (w x : ℕ) → up w x < 2 ^ w
-unfolding up
+pub up_lt : (w x : ℕ) → shift_up w x < 2 ^ w
+unfolding shift_up
 up_lt w x = mod-lt (x * 2) (pow_pos w)
 
 xor_double : (a b : ℕ) → bit_xor (a * 2) (b * 2) ≡ bit_xor a b * 2
 xor_double a b = simp add-zero at (xor_block 1 a b 0 0 (pow_pos 1) (pow_pos 1))
 
-up-xor : (w a b : ℕ) → up w (bit_xor a b) ≡ bit_xor (up w a) (up w b)
-unfolding up
+up-xor : (w a b : ℕ) → shift_up w (bit_xor a b) ≡ bit_xor (shift_up w a) (shift_up w b)
+unfolding shift_up
 up-xor w a b = ap (λ (x : ℕ). x % 2 ^ w) (sym (xor_double a b)) ∙ xor_mod (a * 2) (b * 2) w
 
-xor-up : (w : ℕ) (s : Shares) → xor_of (each (λ i. up w (at i s))) ≡ up w (xor_of s)
+xor-up : (w : ℕ) (s : Shares) → xor_of (each (λ i. shift_up w (at i s))) ≡ shift_up w (xor_of s)
 unfolding xor_of
 xor-up w s = simp up-xor
 
-pub xor-joined : (w : ℕ) (h : Held) → xor_of (joined w h) ≡ bit_xor (up w (xor_of h.s)) (xor_of h.base)
-xor-joined w h = xor_xors (each (λ i. up w (at i h.s))) h.base ∙ ap (λ (x : ℕ). bit_xor x (xor_of h.base)) (xor-up w h.s)
+pub xor-sum_bits : (w : ℕ) (h : CarryState) → xor_of (sum_bits w h) ≡ bit_xor (shift_up w (xor_of h.s)) (xor_of h.base)
+xor-sum_bits w h = xor_xors (each (λ i. shift_up w (at i h.s))) h.base ∙ ap (λ (x : ℕ). bit_xor x (xor_of h.base)) (xor-up w h.s)

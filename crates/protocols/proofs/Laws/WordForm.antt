@@ -9,7 +9,7 @@ use Rattle.protocols.specs.Word.{width, modulus, bit_at, of_bits, choose}
 use Rattle.protocols.specs.Masked.{and_share}
 use Rattle.protocols.specs.Bits.{round_s_at, round_p_at, source, round_s, round_p}
 use Rattle.protocols.specs.Equal.{fold_at, fold_share}
-use Rattle.protocols.specs.WordForm.{sources_in, sources, clear, spread, word_s, word_p, heads, others, word_fold}
+use Rattle.protocols.specs.Private.WordForm.{sources_in, sources, clear, spread, word_s, word_p, heads, others, word_fold}
 use Rattle.protocols.specs.Claims.{WordForms}
 use Rattle.protocols.proofs.Laws.Bitwise.{by_bit, bit-lt, bit_zero, choose-lt, bit_high, bit-low, bit_top, bit-shr, bit-mod, bit_of, bit_ones, bit_at-xor, bit_at-and, of_bits-lt, ext}
 use Rattle.protocols.proofs.Laws.Shared.{and_share-lt, bit_at-and_share, round_s_at-lt, round_p_at-lt, fold_at-lt}
@@ -84,7 +84,7 @@ module _ (k : ℕ) where
   spread_in_suc : (r x : ℕ) → spread_in k (suc r) x ≡ spread_in k r (x / R) * R + run (first x)
   unfolding spread_in sources_in run
   spread_in_suc r x =
-      ap (λ (y : ℕ). y * (H - 1) * 2) masked
+      ap (λ (y : ℕ). y * (H - 1) * 2) masked_sources
       ∙ scale (bit_and (x / R) (sources_in k r)) R (first x) (2 ^ (2 ^ k - 1)) (H - 1)
       ∙ ap (λ (y : ℕ). bit_and (x / R) (sources_in k r) * (H - 1) * 2 * R + first x * (H - 1) * y)
       (sym (pow-suc 2 (2 ^ k - 1)) ∙ ap (λ (y : ℕ). 2 ^ y) (omega (arith, pow_pos k)))
@@ -92,8 +92,8 @@ module _ (k : ℕ) where
       within : 2 ^ k - 1 < 2 ^ suc k
       within = omega (arith, two-pow-succ k, pow_pos k)
 
-      masked : bit_and x (sources_in k r * R + 2 ^ (2 ^ k - 1)) ≡ bit_and (x / R) (sources_in k r) * R + first x * 2 ^ (2 ^ k - 1)
-      masked =
+      masked_sources : bit_and x (sources_in k r * R + 2 ^ (2 ^ k - 1)) ≡ bit_and (x / R) (sources_in k r) * R + first x * 2 ^ (2 ^ k - 1)
+      masked_sources =
           ap (λ (y : ℕ). bit_and y (sources_in k r * R + 2 ^ (2 ^ k - 1))) (sym (split x (2 ^ suc k)))
           ∙ and_block (2 ^ suc k) (x / R) (sources_in k r) (x % R) (2 ^ (2 ^ k - 1)) (mod-lt x (pow_pos (2 ^ suc k))) (pow-lt within)
           ∙ ap (λ (y : ℕ). bit_and (x / R) (sources_in k r) * R + y)
@@ -142,22 +142,22 @@ module _ (n k x : ℕ) (h : k < n) where
   unfolding spread_in sources
   product_lt = rw (runs-width n k h) at (spread_in_lt k (2 ^ (n - suc k)) x)
 
-  shifted : bit_and x (sources n k) * 2 ^ (2 ^ k) ≡ bit_and x (sources n k) * (2 ^ (2 ^ k) - 1) + bit_and x (sources n k)
-  shifted = sym (ap (λ (y : ℕ). bit_and x (sources n k) * y) (suc_ones (2 ^ k))) ∙ mul-suc (bit_and x (sources n k)) (2 ^ (2 ^ k) - 1)
+  shift_sum : bit_and x (sources n k) * 2 ^ (2 ^ k) ≡ bit_and x (sources n k) * (2 ^ (2 ^ k) - 1) + bit_and x (sources n k)
+  shift_sum = sym (ap (λ (y : ℕ). bit_and x (sources n k) * y) (suc_ones (2 ^ k))) ∙ mul-suc (bit_and x (sources n k)) (2 ^ (2 ^ k) - 1)
 
   shifted-lt : bit_and x (sources n k) * 2 ^ (2 ^ k) < modulus n
   shifted-lt =
       let some : 0 < 2 ^ (2 ^ k) - 1 = omega (arith, pow_mono (pow_pos k)) in
-      omega (arith, shifted, product_lt, le-mul_of_pos_right (bit_and x (sources n k)) some)
+      omega (arith, shift_sum, product_lt, le-mul_of_pos_right (bit_and x (sources n k)) some)
 
-  spread_in_lem : spread n k x ≡ spread_in k (2 ^ (n - suc k)) x
+  spread-spread_in : spread n k x ≡ spread_in k (2 ^ (n - suc k)) x
   unfolding spread spread_in sources
-  spread_in_lem =
+  spread-spread_in =
       ap (λ (y : ℕ). (y - bit_and x (sources n k)) * 2 % modulus n) (mod-eq_of_lt shifted-lt)
-      ∙ ap (λ (y : ℕ). y * 2 % modulus n) (omega (arith, shifted)) ∙ mod-eq_of_lt product_lt
+      ∙ ap (λ (y : ℕ). y * 2 % modulus n) (omega (arith, shift_sum)) ∙ mod-eq_of_lt product_lt
 
   bit-spread : (j : ℕ) → j < width n → bit_at (spread n k x) j ≡ choose (bit_at j k) 0 (bit_at x (source k j))
-  bit-spread j l = ap (λ (y : ℕ). bit_at y j) spread_in_lem ∙ bit_spread_in k (2 ^ (n - suc k)) x j (rw (runs-width n k h) l)
+  bit-spread j l = ap (λ (y : ℕ). bit_at y j) spread-spread_in ∙ bit_spread_in k (2 ^ (n - suc k)) x j (rw (runs-width n k h) l)
 
 spread-lt : (n k x : ℕ) → spread n k x < modulus n
 unfolding spread

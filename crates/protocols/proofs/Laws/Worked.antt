@@ -1,6 +1,6 @@
 -- The worked cases: M1 to M9 by computation, M10 to M12 by what new shares combine to.
 use Rattle.std.proofs.Common.{◌≡◌, ℕ, ◌-◌, refl, ◌∙◌, ap₂, pow_pos}
-use Rattle.protocols.specs.Word.{width, modulus, add, sub, mul, bit_at, of_bits, up}
+use Rattle.protocols.specs.Word.{width, modulus, add, sub, mul, bit_at, of_bits, shift_up}
 use Rattle.protocols.specs.Shares.{Operands, sum_of, xor_of}
 use Rattle.protocols.specs.Place.{Tapes}
 use Rattle.protocols.specs.Protocol.{◌then◌}
@@ -8,7 +8,7 @@ use Rattle.protocols.specs.Store.{store}
 use Rattle.protocols.specs.Multiply.{multiply}
 use Rattle.protocols.specs.Bit.{bit}
 use Rattle.protocols.specs.Bits.{deal, exchange, source, round_s, round_p, round, rounds, bits}
-use Rattle.protocols.specs.Equal.{compare, begin, fold_share, fold, folds}
+use Rattle.protocols.specs.Equal.{compare, first_masks, fold_share, fold, folds}
 use Rattle.protocols.specs.Open.{opening}
 use Rattle.protocols.specs.Below.{below}
 use Rattle.protocols.specs.Contents.{Contents}
@@ -25,7 +25,7 @@ below_is : (u v : ℕ) (x : Operands) (b : Tapes) → Contents (modulus 5) (belo
 below_is u v x b c h = (bits_combine 5).below_combines x b c ∙ ap₂ (λ (y z : ℕ). bit_at (sub (modulus 5) y z) (width 5 - 1)) h.0 h.1
 
 pub worked : Worked
-unfolding add sub mul bit_at of_bits up sum_of xor_of ◌then◌ store multiply opening bit deal exchange source round_s round_p round rounds bits compare begin fold_share fold folds
+unfolding add sub mul bit_at of_bits shift_up sum_of xor_of ◌then◌ store multiply opening bit deal exchange source round_s round_p round rounds bits compare first_masks fold_share fold folds
 worked = record {
   M1 = refl;
   M1_received = refl;

@@ -7,35 +7,35 @@ use borrow.Author.Tests.{eq-eqb, ne_eqb}
 use lib.ListN.{length, get_or, take, drop, replicate, length-replicate}
 use lib.Seq.{take_at, get_or_at}
 use Rattle.machine.specs.declared.answer.Answer.{Answer}
-use Rattle.machine.specs.Run.{accepted, refused_with}
+use Rattle.machine.specs.Run.{accepted_count, refused_number}
 use Rattle.machine.proofs.Laws.Runs.{accepted_none, accepted_next, refused_none, refused_next}
 
 -- ---- commands done, and the number
 
 -- k commands done, then the number r, or 0
-abbrev pub Told : List Answer → ℕ → ℕ → Type 0
-Told l k r = (accepted l ≡ k) × (refused_with l ≡ r)
+abbrev pub EndsWith : List Answer → ℕ → ℕ → Type 0
+EndsWith l k r = (accepted_count l ≡ k) × (refused_number l ≡ r)
 
 abbrev numbers_of : List Answer → List ℕ
 numbers_of l = map (λ a. a.number) l
 
-told_next : (a : Answer) (l : List Answer) (k r : ℕ) → a.number ≡ 0 → Told l k r → Told (a ∷ l) (suc k) r
-told_next a l k r e t = rw (accepted_next a l, refused_next a l, eq-eqb a.number 0 e) (ap suc t.0, t.1)
+ends_next : (a : Answer) (l : List Answer) (k r : ℕ) → a.number ≡ 0 → EndsWith l k r → EndsWith (a ∷ l) (suc k) r
+ends_next a l k r e t = rw (accepted_next a l, refused_next a l, eq-eqb a.number 0 e) (ap suc t.0, t.1)
 
-told_last : (a : Answer) (l : List Answer) (r : ℕ) → 0 < r → a.number ≡ r → Told (a ∷ l) 0 r
-told_last a l r h e = rw (accepted_next a l, refused_next a l, ne_eqb a.number 0 (λ f. omega (arith, e, f))) (refl, e)
+ends_last : (a : Answer) (l : List Answer) (r : ℕ) → 0 < r → a.number ≡ r → EndsWith (a ∷ l) 0 r
+ends_last a l r h e = rw (accepted_next a l, refused_next a l, ne_eqb a.number 0 (λ f. omega (arith, e, f))) (refl, e)
 
-pub told-done : (l : List Answer) (k : ℕ) → numbers_of l ≡ replicate k 0 → Told l k 0
-told-done [] zero e = (accepted_none, refused_none)
-told-done [] (suc k) e = absurd (omega (arith, ap length e))
-told-done (a ∷ l) zero e = absurd (omega (arith, ap length e))
-told-done (a ∷ l) (suc k) e = told_next a l k 0 (ap (λ (t : List ℕ). get_or t 0 0) e) (told-done l k (ap (drop 1) e))
+pub ends-done : (l : List Answer) (k : ℕ) → numbers_of l ≡ replicate k 0 → EndsWith l k 0
+ends-done [] zero e = (accepted_none, refused_none)
+ends-done [] (suc k) e = absurd (omega (arith, ap length e))
+ends-done (a ∷ l) zero e = absurd (omega (arith, ap length e))
+ends-done (a ∷ l) (suc k) e = ends_next a l k 0 (ap (λ (t : List ℕ). get_or t 0 0) e) (ends-done l k (ap (drop 1) e))
 
-pub told-refused : (l : List Answer) (k r : ℕ) → 0 < r → numbers_of l ≡ replicate k 0 ++ (r ∷ []) → Told l k r
-told-refused [] zero r h e = absurd (omega (arith, ap length e))
-told-refused [] (suc k) r h e = absurd (omega (arith, ap length e))
-told-refused (a ∷ l) zero r h e = told_last a l r h (ap (λ (t : List ℕ). get_or t 0 0) e)
-told-refused (a ∷ l) (suc k) r h e = told_next a l k r (ap (λ (t : List ℕ). get_or t 0 0) e) (told-refused l k r h (ap (drop 1) e))
+pub ends-refused : (l : List Answer) (k r : ℕ) → 0 < r → numbers_of l ≡ replicate k 0 ++ (r ∷ []) → EndsWith l k r
+ends-refused [] zero r h e = absurd (omega (arith, ap length e))
+ends-refused [] (suc k) r h e = absurd (omega (arith, ap length e))
+ends-refused (a ∷ l) zero r h e = ends_last a l r h (ap (λ (t : List ℕ). get_or t 0 0) e)
+ends-refused (a ∷ l) (suc k) r h e = ends_next a l k r (ap (λ (t : List ℕ). get_or t 0 0) e) (ends-refused l k r h (ap (drop 1) e))
 
 -- numbers that end in the one after k zeros
 pub zeros_then : (l : List ℕ) (a k r : ℕ) → length l ≡ k → l ++ (a ∷ []) ≡ replicate k 0 ++ (r ∷ []) → (l ≡ replicate k 0) × (a ≡ r)

@@ -1,5 +1,5 @@
--- The contents of a sheet, pair by pair, and what accepted contents say of the bodies.
-use Prim.Native.Nat.{ℕ, zero, suc, ◌+◌, ◌-◌, ◌*◌, ◌/◌, ◌≤◌, ◌<◌}
+-- The contents of a sheet, pair by pair, and what contents that pass the tests say of the bodies.
+use Prim.Native.Nat.{ℕ, zero, suc, ◌+◌, ◌*◌, ◌/◌, ◌≤◌, ◌<◌}
 use mathlib.Core.Path.{◌≡◌, refl, ap, ◌∙◌}
 use mathlib.Core.List.{List, [], ◌∷◌, ◌++◌, append-nil}
 use mathlib.Core.Bool.{Bool, true, false, cond, ◌&&◌, false≢true}
@@ -18,9 +18,10 @@ use Rattle.std.proofs.lemmas.Bool.{false_from_ne_true}
 use Rattle.std.proofs.lemmas.List.{drop_all}
 use Rattle.protocols.proofs.Laws.Deliveries.{both}
 use Rattle.session.specs.Words.{words_of}
-use Rattle.session.specs.Contents.{chained, limits, within, start_of, count_of, Bodies}
-use Rattle.session.specs.Session.{tested, is_whole, is_chained, is_within}
-use Rattle.session.proofs.Laws.Words.{length-words_of, words_of-first}
+use Rattle.session.specs.Contents.{is_chained, limits, is_within_limits, start_of, count_of}
+use Rattle.session.specs.Private.Bodies.{Bodies}
+use Rattle.session.specs.Session.{first_refusal, is_whole, has_chained_contents, has_legal_counts}
+use Rattle.session.proofs.Laws.Words.{length-words_of, words_of-cut}
 
 pub twelve : (f : List ℕ) → 48 ≤ length f → length (take 12 (words_of f)) ≡ 12
 twelve f long = length-take-le 12 (words_of f) (omega (arith, length-words_of f))
@@ -29,7 +30,7 @@ twelve f long = length-take-le 12 (words_of f) (omega (arith, length-words_of f)
 pub contents_read : (f b d : List ℕ) → b ≡ take 48 f → 48 ≤ length f → length d ≡ 12 → words_of b ++ drop (length b / 4) d ≡ take 12 (words_of f)
 contents_read f b d e h g =
     let k : length b ≡ 48 = ap length e ∙ length-take-le 48 f h in
-    rw (drop_all (length b / 4) d (omega arith), append-nil, e) (words_of-first f 12)
+    rw (drop_all (length b / 4) d (omega arith), append-nil, e) (words_of-cut f 12).0
 
 -- ---- pair by pair
 
@@ -49,20 +50,20 @@ next_pair (s ∷ c ∷ r) (suc n) (suc i) h g =
     let k : 2 * (suc i + 1) ≡ suc (suc (2 * (i + 1))) = omega arith in rw (two-suc i, k) (next_pair r n i (omega arith) (omega arith))
 
 module _ (l : List ℕ) (n i at end : ℕ) (h : i < n) (g : 2 * n ≤ length l) where
-  pub chain_turn : pair_word l n i 0 ≡ at → chained (at + pair_word l n i 1) (drop (2 * (i + 1)) l) end ≡ chained at (drop (2 * i) l) end
-  unfolding chained
+  pub chain_turn : pair_word l n i 0 ≡ at → is_chained (at + pair_word l n i 1) (drop (2 * (i + 1)) l) end ≡ is_chained at (drop (2 * i) l) end
+  unfolding is_chained
   chain_turn e = rw (next_pair l n i h g, e, eq-eqb at at refl)
 
-  pub chain_broken : ¬ (pair_word l n i 0 ≡ at) → false ≡ chained at (drop (2 * i) l) end
-  unfolding chained
+  pub chain_broken : ¬ (pair_word l n i 0 ≡ at) → false ≡ is_chained at (drop (2 * i) l) end
+  unfolding is_chained
   chain_broken e = rw (next_pair l n i h g, ne_eqb (pair_word l n i 0) at e)
 
--- each of the first pairs has a count within its limit
+-- each of the first pairs has a count is_within_limits its limit
 abbrev Each : List ℕ → List ℕ → ℕ → Type 0
 Each ms l n = (k : ℕ) → k < length ms → pair_word l n k 1 ≤ get_or ms k 0
 
-pub each_within : (ms l : List ℕ) (n : ℕ) (b : Bool) → length ms ≤ n → 2 * n ≤ length l → IsTrue b ↔ Each ms l n → b ≡ within ms l
-unfolding within
+pub each_within : (ms l : List ℕ) (n : ℕ) (b : Bool) → length ms ≤ n → 2 * n ≤ length l → IsTrue b ↔ Each ms l n → b ≡ is_within_limits ms l
+unfolding is_within_limits
 each_within [] l n b h g e = e.1 (λ k z. absurd (omega arith))
 each_within (m ∷ ms) l zero b h g e = absurd (omega arith)
 each_within (m ∷ ms) [] (suc n) b h g e = absurd (omega arith)
@@ -76,36 +77,36 @@ each_within (m ∷ ms) (s ∷ c ∷ r) (suc n) b h g e = by_count (dec_le c m) (
         both le all zero z = le
         both le all (suc k) z = all k (omega arith)
 
-    by_count : Dec (c ≤ m) → (c ≤ m → b ≡ within ms r) → b ≡ (leb c m && within ms r)
+    by_count : Dec (c ≤ m) → (c ≤ m → b ≡ is_within_limits ms r) → b ≡ (leb c m && is_within_limits ms r)
     by_count (yes le) i = rw (le-leb c m le) (i le)
     by_count (no gt) i = rw (lt-leb c m (omega arith)) (false_from_ne_true b (λ t. gt (e.0 t 0 (omega arith))))
 
--- ---- accepted contents
+-- ---- contents that pass the tests
 
 -- which tests held, where the number is 0
 all_hold : (a b c d : Bool) → ◌≡◌ {A = ℕ} (cond a (cond b (cond c (cond d 0 4) 3) 2) 1) 0 → (a ≡ true) × (b ≡ true) × (c ≡ true) × (d ≡ true)
 all_hold a b c d h = (grind (arith, nat_tests), grind (arith, nat_tests), grind (arith, nat_tests), grind (arith, nat_tests))
 
-pub record Accepted (f : List ℕ) (lent : Bool) : Type 0 where
+pub record PassesTests (f : List ℕ) (lent : Bool) : Type 0 where
   pub whole : is_whole f ≡ true
-  pub chain : is_chained f ≡ true
-  pub limits : is_within f ≡ true
+  pub chain : has_chained_contents f ≡ true
+  pub limits : has_legal_counts f ≡ true
   pub enough : lent ≡ true
 
-pub accepted : (f : List ℕ) (lent : Bool) → tested f lent ≡ 0 → Accepted f lent
-unfolding tested
-accepted f lent h =
-    let t = all_hold (is_whole f) (is_chained f) (is_within f) lent h in record { whole = t.0; chain = t.1; limits = t.2; enough = t.3 }
+pub passes_tests : (f : List ℕ) (lent : Bool) → first_refusal f lent ≡ 0 → PassesTests f lent
+unfolding first_refusal
+passes_tests f lent h =
+    let t = all_hold (is_whole f) (has_chained_contents f) (has_legal_counts f) lent h in record { whole = t.0; chain = t.1; limits = t.2; enough = t.3 }
 
-pub long : (f : List ℕ) {lent : Bool} → Accepted f lent → 48 ≤ length f
+pub long : (f : List ℕ) {lent : Bool} → PassesTests f lent → 48 ≤ length f
 long f a = leb-true 48 (length f) (both _ _ a.whole).0
 
-chained-le : (at end : ℕ) (l : List ℕ) → chained at l end ≡ true → at ≤ end
-unfolding chained
+chained-le : (at end : ℕ) (l : List ℕ) → is_chained at l end ≡ true → at ≤ end
+unfolding is_chained
 chained-le at end [] h = let e = eqb-true at end h in omega arith
 chained-le at end (s ∷ []) h = absurd (false≢true h)
 chained-le at end (s ∷ n ∷ r) h =
-    let t = both (eqb s at) (chained (s + n) r end) h in
+    let t = both (eqb s at) (is_chained (s + n) r end) h in
     let e = eqb-true s at t.0 in
     let m = chained-le (s + n) end r t.1 in
     omega arith
@@ -113,40 +114,40 @@ chained-le at end (s ∷ n ∷ r) h =
 pub two-suc-add : (k : ℕ) → 2 * suc k + 1 ≡ suc (suc (2 * k + 1))
 two-suc-add k = omega arith
 
--- each body ends within the file
-body_ends : (k at end : ℕ) (l : List ℕ) → 2 * k + 1 < length l → chained at l end ≡ true → start_of l k + count_of l k ≤ end
-unfolding chained
+-- each body ends is_within_limits the file
+body_ends : (k at end : ℕ) (l : List ℕ) → 2 * k + 1 < length l → is_chained at l end ≡ true → start_of l k + count_of l k ≤ end
+unfolding is_chained
 body_ends k at end [] h e = absurd (omega arith)
 body_ends k at end (s ∷ []) h e = absurd (false≢true e)
-body_ends zero at end (s ∷ n ∷ r) h e = chained-le (s + n) end r (both (eqb s at) (chained (s + n) r end) e).1
+body_ends zero at end (s ∷ n ∷ r) h e = chained-le (s + n) end r (both (eqb s at) (is_chained (s + n) r end) e).1
 body_ends (suc k) at end (s ∷ n ∷ r) h e =
-    rw (two-suc-add k, two-suc k) (body_ends k (s + n) end r (omega arith) (both (eqb s at) (chained (s + n) r end) e).1)
+    rw (two-suc-add k, two-suc k) (body_ends k (s + n) end r (omega arith) (both (eqb s at) (is_chained (s + n) r end) e).1)
 
 total : List ℕ → ℕ
 total [] = 0
 total (m ∷ ms) = m + total ms
 
 -- a file is no longer than the limits allow
-room : (ms : List ℕ) (at end : ℕ) (l : List ℕ) → length l ≡ 2 * length ms → chained at l end ≡ true → within ms l ≡ true → end ≤ at + total ms
-unfolding chained within total
+room : (ms : List ℕ) (at end : ℕ) (l : List ℕ) → length l ≡ 2 * length ms → is_chained at l end ≡ true → is_within_limits ms l ≡ true → end ≤ at + total ms
+unfolding is_chained is_within_limits total
 room [] at end [] h e w = let q = eqb-true at end e in omega arith
 room [] at end (s ∷ []) h e w = absurd (false≢true e)
 room [] at end (s ∷ n ∷ r) h e w = absurd (omega arith)
 room (m ∷ ms) at end [] h e w = absurd (false≢true w)
 room (m ∷ ms) at end (s ∷ []) h e w = absurd (false≢true w)
 room (m ∷ ms) at end (s ∷ n ∷ r) h e w =
-    let t = both (eqb s at) (chained (s + n) r end) e in
-    let u = both (leb n m) (within ms r) w in
+    let t = both (eqb s at) (is_chained (s + n) r end) e in
+    let u = both (leb n m) (is_within_limits ms r) w in
     let q = eqb-true s at t.0 in
     let b = leb-true n m u.0 in
     let v = room ms (s + n) end r (omega arith) t.1 u.1 in
     omega arith
 
-pub fits_lent : (f : List ℕ) {lent : Bool} → Accepted f lent → length f / 4 ≤ 7692
+pub fits_lent : (f : List ℕ) {lent : Bool} → PassesTests f lent → length f / 4 ≤ 7692
 unfolding total
 fits_lent f a = room limits 12 (length f / 4) (take 12 (words_of f)) (twelve f (long f a)) a.chain (both _ _ a.limits).0
 
-pub bodies : (f : List ℕ) {lent : Bool} → Accepted f lent → Bodies (words_of f)
+pub bodies : (f : List ℕ) {lent : Bool} → PassesTests f lent → Bodies (words_of f)
 bodies f a =
     record {
       long = omega (arith, length-words_of f, long f a);
@@ -159,13 +160,5 @@ bodies f a =
         let e = body_ends k 12 (length f / 4) (take 12 (words_of f)) (omega (arith, twelve f (long f a))) a.chain in
         omega (arith, e, s, n, length-words_of f)
 
--- a part from a to a + n
-pub part : (l : List ℕ) (a n : ℕ) → take (a + n - a) (drop a l) ≡ take n (drop a l)
-part l a n = let e : a + n - a ≡ n = omega arith in rw e
-
 pub commands_count : (f : List ℕ) → count_of (take 12 (words_of f)) 0 ≡ count_of (words_of f) 0
 commands_count f = get_or-take 12 (words_of f) 1 0 (omega arith)
-
-pub at_most_4 : (f : List ℕ) (lent : Bool) → tested f lent ≤ 4
-unfolding tested
-at_most_4 f lent = grind (arith, nat_tests)

@@ -6,7 +6,7 @@ use mathlib.Core.List.{List, [], ◌∷◌}
 use native.Mathlib.Omega.{arith}
 use lib.ListN.{length, get_or, take}
 use Rattle.machine.proofs.Laws.Tests.{Decides, holds, same_as, and, by_le, by_eq}
-use Rattle.session.specs.Contents.{start_of, count_of, chained, within}
+use Rattle.session.specs.Contents.{start_of, count_of, is_chained, is_within_limits}
 use Rattle.session.specs.Refusals.{due_start}
 use Rattle.session.proofs.Laws.Contents.{two-suc, two-suc-add}
 
@@ -30,9 +30,9 @@ due_next : (at s n : ℕ) (r : List ℕ) (k : ℕ) → due at (s ∷ n ∷ r) (s
 due_next at s n r zero = refl
 due_next at s n r (suc k) = ap₂ ◌+◌ (start_next s n r k) (count_next s n r k)
 
-pub due_start_lem : (l : List ℕ) (k : ℕ) → due 12 l k ≡ due_start l k
-due_start_lem l zero = refl
-due_start_lem l (suc k) = refl
+pub due-due_start : (l : List ℕ) (k : ℕ) → due 12 l k ≡ due_start l k
+due-due_start l zero = refl
+due-due_start l (suc k) = refl
 
 -- ---- the chain of the first m pairs
 
@@ -42,8 +42,8 @@ WrongStart at l m k = (k < m) × (¬ (start_of l k ≡ due at l k))
 abbrev pub Broken : ℕ → List ℕ → ℕ → ℕ → Type 0
 Broken at l m end = ((k : ℕ) × WrongStart at l m k) ⊎ (¬ (due at l m ≡ end))
 
-pub by_chain : (m at end : ℕ) (l : List ℕ) → 2 * m ≤ length l → Decides (Broken at l m end) (chained at (take (2 * m) l) end)
-unfolding chained
+pub by_chain : (m at end : ℕ) (l : List ℕ) → 2 * m ≤ length l → Decides (Broken at l m end) (is_chained at (take (2 * m) l) end)
+unfolding is_chained
 by_chain zero at end l h = same_as inr from (by_eq at end)
   where
     from : Broken at l zero end → ¬ (at ≡ end)
@@ -74,8 +74,8 @@ by_chain (suc m) at end (s ∷ n ∷ r) h =
 abbrev pub Over : List ℕ → List ℕ → ℕ → Type 0
 Over ms l k = (k < length ms) × (get_or ms k 0 < count_of l k)
 
-pub by_within : (ms l : List ℕ) → 2 * length ms ≤ length l → Decides ((k : ℕ) × Over ms l k) (within ms (take (2 * length ms) l))
-unfolding within
+pub by_within : (ms l : List ℕ) → 2 * length ms ≤ length l → Decides ((k : ℕ) × Over ms l k) (is_within_limits ms (take (2 * length ms) l))
+unfolding is_within_limits
 by_within [] l h = holds (λ b. omega (arith, b.1.0))
 by_within (m ∷ ms) [] h = absurd (omega arith)
 by_within (m ∷ ms) (s ∷ []) h = absurd (omega arith)

@@ -6,7 +6,7 @@ use native.Mathlib.Decide.{dec_lt}
 use native.Mathlib.Nat.{pow-suc}
 use native.Mathlib.Omega.{arith}
 use lib.ListN.{length, get_or}
-use Rattle.session.specs.Text.{last_digit, digits, decimal as printed, value_of}
+use Rattle.session.specs.Text.{last_digit, digits, value_of}
 use Rattle.session.specs.Claims.{Decimal}
 use Rattle.session.proofs.Laws.Digits.{appends}
 
@@ -26,9 +26,6 @@ spells-within (suc k) n h = by_size (dec_lt n 10) (spells-within k (n / 10) (ome
     by_size : Dec (n < 10) → value_of 0 (digits (suc k) (n / 10)) ≡ n / 10 → value_of 0 (digits (suc (suc k)) n) ≡ n
     by_size (yes one) e = rw (appends.one (suc k) n one) (omega arith)
     by_size (no more) e = rw (appends.more (suc k) n (omega arith), value-append, e) (omega arith)
-
-spells : (n : ℕ) → n < 2 ^ 64 → value_of 0 (printed n) ≡ n
-spells n h = spells-within 19 n (omega arith)
 
 -- ---- its digits
 
@@ -50,9 +47,6 @@ digits_are (suc k) n = by_size (dec_lt n 10) (digits_are k (n / 10))
     by_size (yes one) f = rw (appends.one k n one) (with_last [] (48 + n) (λ i h. let w : ⊥ = omega arith in absurd w) (omega arith))
     by_size (no more) f = rw (appends.more k n (omega arith)) (with_last (digits k (n / 10)) (last_digit n) f (omega arith))
 
-are_digits : (n i : ℕ) → i < length (printed n) → (48 ≤ get_or (printed n) i 0) × (get_or (printed n) i 0 ≤ 57)
-are_digits n = digits_are 20 n
-
 -- ---- its first digit
 
 first_stays : (l t : List ℕ) → 48 < get_or l 0 0 → 48 < get_or (l ++ t) 0 0
@@ -69,10 +63,11 @@ first-within (suc k) n p h = by_size (dec_lt n 10) (first-within k (n / 10))
         rw (appends.more (suc k) n (omega arith))
         (first_stays (digits (suc k) (n / 10)) (last_digit n ∷ []) (f (omega arith) (omega (arith, pow-suc 10 (suc k)))))
 
-no_leading_zero : (n : ℕ) → 0 < n → n < 2 ^ 64 → 48 < get_or (printed n) 0 0
-no_leading_zero n p h = first-within 19 n p (omega arith)
-
 -- ---- all of it
 
 pub decimal : (n : ℕ) → n < 2 ^ 64 → Decimal n
-decimal n h = record { are_digits = are_digits n; no_leading_zero = λ p. no_leading_zero n p h; spells = spells n h }
+decimal n h = record {
+  are_digits = digits_are 20 n;
+  no_leading_zero = λ p. first-within 19 n p (omega arith);
+  spells = spells-within 19 n (omega arith);
+}

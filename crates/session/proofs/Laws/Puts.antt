@@ -5,14 +5,17 @@ use mathlib.Core.List.{List, [], ◌∷◌, ◌++◌, append-nil, append_assoc}
 use native.Mathlib.Omega.{arith}
 use borrow.Rule.Slice.PartMut.{put_mid}
 use lib.ListN.{length, take, drop, length-append}
-use lib.Seq.{sets, sets-eq, length-sets}
+use lib.Chars.{codes}
+use lib.Seq.{sets, sets-eq, length-sets, take_at}
+use Rattle.std.proofs.lemmas.List.{drop_at}
+use Rattle.protocols.proofs.Laws.Deliveries.{begins_with}
 use Rattle.std.proofs.Common.{drop-drop}
 use Rattle.protocols.proofs.Laws.Puts.{sets-append}
 use Rattle.session.specs.declared.text.Text.{Text}
 use Rattle.std.specs.Fmt.{decimal as printed}
-use Rattle.session.specs.Text.{spaced}
-use Rattle.session.specs.Writing.{Adds}
-use Rattle.session.proofs.Laws.Text.{spaced_one}
+use Rattle.session.specs.Text.{spaced_numbers}
+use Rattle.session.specs.Private.Writing.{Adds, IsFront}
+use Rattle.session.proofs.Laws.Text.{spaced_numbers-one}
 
 -- a text copied over a part of the buffer
 put_over : (l s t : List ℕ) (at k : ℕ) → t ≡ s → k ≡ length s → at + length s ≤ length l → put_mid at k l t ≡ sets l at s
@@ -39,20 +42,20 @@ pub adds_nothing : {a : Text} → a.len ≤ length a.out.now → Adds a [] a
 adds_nothing h = record { same_reference = refl; bytes = refl; len = omega arith; same_room = refl; fits = h }
 
 -- a number is a space and what the library prints
-pub adds_number : {a b c : Text} (n : ℕ) (t : List ℕ) → n < 2 ^ 64 → t ≡ printed n → Adds a (32 ∷ []) b → Adds b t c → Adds a (spaced (n ∷ [])) c
-adds_number n t h e space rest = rw (spaced_one n h, ← e) (adds_then (32 ∷ []) t space rest)
+pub adds_number : {a b c : Text} (n : ℕ) (t : List ℕ) → n < 2 ^ 64 → t ≡ printed n → Adds a (codes " ") b → Adds b t c → Adds a (spaced_numbers (n ∷ [])) c
+adds_number n t h e space rest = rw (spaced_numbers-one n h, ← e) (adds_then (codes " ") t space rest)
 
 -- ---- text of which a part is done, and the rest left
 
-pub record Begun (old : Text) (whole left : List ℕ) (most : ℕ) (new : Text) : Type 0 where
+pub record PartAdded (old : Text) (whole left : List ℕ) (most : ℕ) (new : Text) : Type 0 where
   pub done : List ℕ
   pub added : Adds old done new
   pub rest : done ++ left ≡ whole
   pub short : length done ≤ most
 
-pub begun_more : {a b c : Text} {whole left : List ℕ} {n : ℕ} (s rest : List ℕ) (m : ℕ) → Begun a whole left n b → left ≡ s ++ rest → length s + n ≤ m
-    → Adds b s c → Begun a whole rest m c
-begun_more s rest m h e k d =
+pub part_more : {a b c : Text} {whole left : List ℕ} {n : ℕ} (s rest : List ℕ) (m : ℕ) → PartAdded a whole left n b → left ≡ s ++ rest → length s + n ≤ m
+    → Adds b s c → PartAdded a whole rest m c
+part_more s rest m h e k d =
     record {
       done = h.done ++ s;
       added = adds_then h.done s h.added d;
@@ -60,14 +63,20 @@ begun_more s rest m h e k d =
       short = omega (arith, length-append h.done s, h.short);
     }
 
-pub begun_all : {a b : Text} {whole left : List ℕ} {n : ℕ} → Begun a whole left n b → left ≡ [] → Adds a whole b
-begun_all h e = rw (← h.rest, e, append-nil) h.added
+pub part_all : {a b : Text} {whole left : List ℕ} {n : ℕ} → PartAdded a whole left n b → left ≡ [] → Adds a whole b
+part_all h e = rw (← h.rest, e, append-nil) h.added
 
-pub begun_same : {a b : Text} {whole left : List ℕ} {n : ℕ} {rest : List ℕ} (m : ℕ) → Begun a whole left n b → left ≡ rest → n ≤ m → Begun a whole rest m b
-begun_same m h e k = record { done = h.done; added = h.added; rest = rw (← e) h.rest; short = omega (arith, h.short) }
+pub part_same : {a b : Text} {whole left : List ℕ} {n : ℕ} {rest : List ℕ} (m : ℕ) → PartAdded a whole left n b → left ≡ rest → n ≤ m → PartAdded a whole rest m b
+part_same m h e k = record { done = h.done; added = h.added; rest = rw (← e) h.rest; short = omega (arith, h.short) }
 
 -- ---- the text of a whole buffer
 
-pub put_all : {a b : Text} {l s : List ℕ} {r : ℕ} → (a.out.now ≡ l) × (a.len ≡ 0) → Adds a s b → r ≡ b.len
-    → (b.out.now ≡ sets l 0 s) × (r ≡ length s) × (r ≤ length b.out.now)
-put_all {s = s} e h er = (h.bytes ∙ rw (e.0, e.1), omega (arith, h.len, e.1, er), omega (arith, h.fits, er))
+pub is_front : {a b : Text} {l s : List ℕ} {r : ℕ} → a.out.now ≡ l → a.len ≡ 0 → Adds a s b → r ≡ b.len → IsFront l s b.out.now r
+is_front {a} {b} {l} {s} {r} el e0 h er =
+    let n : r ≡ length s = omega (arith, h.len, e0, er) in
+    let new : b.out.now ≡ s ++ drop (length s) l = h.bytes ∙ rw (el, e0) (begins_with l s (omega (arith, h.fits, h.same_room, ap length el, er, n))) in
+    record {
+      text = rw (new, n) (take_at s (drop (length s) l) (length s) refl);
+      rest = rw (new, n) (drop_at s (drop (length s) l) (length s) refl);
+      within = omega (arith, h.fits, er);
+    }

@@ -1,171 +1,163 @@
 -- The text, from what a session leaves: its answer, the words, and the words that the controller received.
 use Prim.Native.Nat.{ℕ, ◌+◌, ◌*◌, ◌/◌, ◌≤◌, ◌<◌}
 use mathlib.Core.Path.{◌≡◌, refl, sym, ap, ap₂, ◌∙◌, subst}
-use mathlib.Core.Bool.{Bool, true, false, cond, false≢true}
-use mathlib.Core.List.{List, [], ◌∷◌, ◌++◌}
+use mathlib.Core.Bool.{true, false, cond, false≢true}
+use mathlib.Core.List.{List, ◌++◌}
 use native.Mathlib.Omega.{arith}
-use borrow.Author.Tests.{eqb-true, eqb-false, leb-true, le-leb, lt-ltb, le-ltb}
+use borrow.Author.Tests.{le-leb, lt-ltb, le-ltb}
 use lib.ListN.{length, take, drop, length-append, length-drop}
-use lib.Seq.{sets, length-take-le, get_or-take, take-take, take-append-le, drop-append-le}
-use lib.Dec.{eqb, leb}
+use lib.Seq.{take-take, take-append-le, drop-append-le}
+use Rattle.std.proofs.lemmas.List.{length-take}
 use Rattle.protocols.specs.Word.{modulus}
-use Rattle.machine.specs.Run.{Ran, commands_of, accepted, empty, sums_in_threes}
+use Rattle.machine.specs.Run.{RunResult, commands_of, accepted_count, empty_place, sums_in_threes}
 use Rattle.machine.proofs.Laws.ControllerWords.{controller_adds_up}
+use Rattle.machine.proofs.Laws.Lowest.{passes, refuses}
+use Rattle.machine.proofs.Laws.Tests.{stable}
 use Rattle.machine.proofs.Laws.Threes.{commands_taken, commands_fit}
-use Rattle.protocols.proofs.Laws.Deliveries.{both}
 use Rattle.session.specs.declared.answer.SessionAnswer.{SessionAnswer}
 use Rattle.session.specs.Words.{words_of}
-use Rattle.session.specs.Contents.{start_of, count_of, body, chained, within, Sheet, sheet_of}
-use Rattle.session.specs.Session.{State, lent_with, is_lent, refusal, refused, run_of, Outcome, outcome, finished, performed, with_words, session}
-use Rattle.session.specs.Text.{open_lines, last_line, is_early, refused_line, text_of, lines_with, text_from, Readable, printed, pool, rendered, into}
-use Rattle.session.proofs.Laws.Contents.{Accepted, bodies, long, twelve, at_most_4}
-use Rattle.session.proofs.Laws.Contents as contents
-use Rattle.session.proofs.Laws.Session.{session-run, session-refused}
-use Rattle.session.proofs.Laws.RunLines.{run_lines, run-done}
+use Rattle.session.specs.Contents.{start_of, count_of, body, Sheet, sheet_of}
+use Rattle.session.specs.Session.{State, lent_to_commands, is_lent, early_refusal, outcome_of_refusal, run_of, session_answer, SessionOutcome, session_outcome, outcome_of_run, words_after, session}
+use Rattle.session.specs.Refusals.{AppliesToSession, wrong_start, over_limit}
+use Rattle.session.specs.Claims.{IsTaken, UpToRefusal, runs_to_end, stops_at, outcome_after}
+use Rattle.session.specs.Text.{open_lines, last_line, is_early, refusal_line, text_of, open_lines_by_words, pool_outcome, pool}
+use Rattle.session.specs.Private.Report.{text_by_shares, IsReadable}
+use Rattle.session.proofs.Laws.Contents.{bodies, passes_tests}
+use Rattle.session.proofs.Laws.Refusals.{bounds, FirstRefusal, exact}
+use Rattle.session.proofs.Laws.Session.{session-run}
+use Rattle.session.proofs.Laws.SessionRefusals.{session-applies, is_taken}
+use Rattle.session.proofs.Laws.RunLines.{run_lines}
+use Rattle.session.proofs.Laws.UpToRefusal.{up_to-refusal}
 
--- ---- the commands' body
-
-first-start : (at end : ℕ) (l : List ℕ) → 2 ≤ length l → chained at l end ≡ true → start_of l 0 ≡ at
-unfolding chained
-first-start at end [] h e = absurd (omega arith)
-first-start at end (s ∷ []) h e = absurd (false≢true e)
-first-start at end (s ∷ n ∷ r) h e = eqb-true s at (both (eqb s at) (chained (s + n) r end) e).0
-
-first_limit : (m : ℕ) (ms l : List ℕ) → within (m ∷ ms) l ≡ true → count_of l 0 ≤ m
-unfolding within
-first_limit m ms [] h = absurd (false≢true h)
-first_limit m ms (s ∷ []) h = absurd (false≢true h)
-first_limit m ms (s ∷ n ∷ r) h = leb-true n m (both (leb n m) (within ms r) h).0
-
-module _ (f : List ℕ) {lent : Bool} (a : Accepted f lent) where
+module _ (f w : List ℕ) (s : State) where
   abbrev words : List ℕ
   words = words_of f
 
-  starts_at_12 : start_of words 0 ≡ 12
-  starts_at_12 =
-      sym (get_or-take 12 words 0 0 (omega arith))
-      ∙ first-start 12 (length f / 4) (take 12 words) (omega (arith, twelve f (long f a))) a.chain
-
-  at_most_384 : count_of words 0 ≤ 384
-  at_most_384 =
-      subst (λ (n : ℕ). n ≤ 384) (get_or-take 12 words 1 0 (omega arith)) (first_limit 384 _ (take 12 words) (both _ _ a.limits).0)
-
-  ends : 12 + count_of words 0 ≤ length words
-  ends = omega (arith, (bodies f a).within 0 (omega arith), starts_at_12)
-
-  long-body : length (body words 0) ≡ count_of words 0
-  long-body = length-take-le (count_of words 0) (drop (start_of words 0) words) (omega (arith, length-drop (start_of words 0) words, starts_at_12, ends))
-
-  -- the first words of the lent ones after the contents are those of the commands
-  commands_stand : (k : ℕ) (rest : List ℕ) → k ≤ count_of words 0 → take k (drop 12 (words ++ rest)) ≡ take k (body words 0)
-  commands_stand k rest h =
-      ap (take k) (drop-append-le 12 words rest (omega (arith, ends)))
-      ∙ take-append-le k (drop 12 words) rest (omega (arith, length-drop 12 words, ends))
-      ∙ ap (λ (s : ℕ). take k (drop s words)) (sym starts_at_12)
-      ∙ sym (take-take k (count_of words 0) (drop (start_of words 0) words) h)
-
-  done-commands : (k : ℕ) → k ≤ length (commands_of (body words 0)) → 3 * k ≤ count_of words 0
-  done-commands k h = omega (arith, commands_fit (body words 0), long-body)
-
--- ---- the text
-
-module _ (f w : List ℕ) (s : State) where
   abbrev sheet : Sheet
-  sheet = sheet_of (words_of f)
+  sheet = sheet_of words
 
-  abbrev answers : Ran
-  answers = run_of sheet s
-
-  -- the text of an outcome, by the run and by what is left, and what is read of it
-  pub record Told (o : Outcome) : Type 0 where
-    pub text : text_of sheet s o.answer ≡ text_from o.answer o.words o.state.received.controller
-    pub readable : is_early o.answer.number ≡ false → Readable o.answer o.words o.state.received.controller
-
-  -- ---- a session that runs
-
-  module _ (h : refusal f w s ≡ 0) where
-    taken : Accepted f (is_lent sheet w s)
-    taken = contents.accepted f (is_lent sheet w s) h
-
-    abbrev done : ℕ
-    done = accepted answers.answers
-
-    few : 3 * done ≤ count_of (words_of f) 0
-    few = done-commands f taken done (run-done 5 sheet.commands empty (lent_with sheet s))
-
-    run-text : open_lines sheet.commands answers.answers
-        ≡ lines_with (commands_of (take (3 * done) (drop 12 (with_words f w))))
-        (sums_in_threes (modulus 5) (take answers.place.received.controller answers.lent.received.controller))
-    run-text =
-        let handed = controller_adds_up 5 sheet.commands empty (lent_with sheet s) in
-        run_lines 5 sheet.commands empty (lent_with sheet s)
-        ∙ ap₂ lines_with (sym (ap commands_of (commands_stand f taken (3 * done) (drop (length f / 4) w) few) ∙ commands_taken done (body (words_of f) 0)))
-        (handed.add_up ∙ ap (sums_in_threes (modulus 5)) (sym handed.received))
-
-    run-told : Told (performed (finished answers) (with_words f w))
-    unfolding text_of text_from
-    run-told =
-        let a = (finished answers).answer in
-        record {
-          text = ap (λ (l : List ℕ). cond (is_early a.number) (refused_line a.number) (l ++ last_line a)) run-text;
-          readable = λ e. record {
-            within_limit = omega (arith, few, at_most_384 f taken);
-            has_commands = omega (arith, few, ends f taken, length-append (words_of f) (drop (length f / 4) w));
-            has_shares = (controller_adds_up 5 sheet.commands empty (lent_with sheet s)).within (omega arith);
-          };
-        }
+  -- the text of an outcome is the one that the code makes of it, and what is read of it is there
+  pub record IsReported (o : SessionOutcome) : Type 0 where
+    pub text : text_of sheet s o.answer ≡ text_by_shares o.answer o.words o.state.received.controller
+    pub readable : is_early o.answer.number ≡ false → IsReadable o.answer o.words o.state.received.controller
 
   -- ---- a session that is turned down
 
-  early : (r : ℕ) → ¬ (r ≡ 0) → r ≤ 4 → is_early r ≡ true
-  early r h e = rw (lt-ltb 0 r (omega (arith, h)), le-leb r 4 e)
+  is_early-small : (r : ℕ) → 1 ≤ r → r ≤ 4 → is_early r ≡ true
+  is_early-small r h e = rw (lt-ltb 0 r (omega (arith, h)), le-leb r 4 e)
 
-  refused-told : ¬ (refusal f w s ≡ 0) → Told (refused (refusal f w s) w s)
-  unfolding text_of text_from
-  refused-told h =
-      let e = early (refusal f w s) h (at_most_4 f (is_lent sheet w s)) in
-      record { text = rw e; readable = λ d. absurd (false≢true (sym d ∙ e)) }
+  refusal-reported : (r : ℕ) → 1 ≤ r → r ≤ 4 → IsReported (outcome_of_refusal r w s)
+  unfolding text_of text_by_shares
+  refusal-reported r h e = record { text = rw (is_early-small r h e); readable = λ d. absurd (false≢true (sym d ∙ is_early-small r h e)) }
 
-  told_by : (b : Bool) → eqb (refusal f w s) 0 ≡ b → Told (session f w s)
-  told_by true e = let h = eqb-true (refusal f w s) 0 e in subst Told (sym (session-run f w s h)) (run-told h)
-  told_by false e = let h = eqb-false (refusal f w s) 0 e in subst Told (sym (session-refused f w s h)) (refused-told h)
+  -- ---- a session that runs
 
-  pub told : Told (session f w s)
-  told = told_by (eqb (refusal f w s) 0) refl
+  module _ (zero : early_refusal f w s ≡ 0) (taken : IsTaken f w s) where
+    abbrev its_run : RunResult
+    its_run = run_of sheet s
+
+    abbrev done : ℕ
+    done = accepted_count its_run.answers
+
+    starts_at_12 : start_of words 0 ≡ 12
+    starts_at_12 = stable (start_of words 0) 12 (λ n. taken 2 (wrong_start 0 (omega arith) n))
+
+    at_most_384 : count_of words 0 ≤ 384
+    at_most_384 = let h : ¬ (384 < count_of words 0) = λ b. taken 3 (over_limit 0 (omega arith) b) in omega (arith, h)
+
+    commands_end : 12 + count_of words 0 ≤ length words
+    commands_end = omega (arith, (bodies f (passes_tests f (is_lent sheet w s) zero)).within 0 (omega arith), starts_at_12)
+
+    is_done : {k r : ℕ} → session f w s ≡ outcome_after f w s k r → done ≡ k
+    is_done e = ap (λ (o : SessionOutcome). o.answer.done) (sym (session-run f w s zero) ∙ e)
+
+    done-le : UpToRefusal f w s → done ≤ length sheet.commands
+    done-le (runs_to_end zeros e) = omega (arith, is_done e)
+    done-le (stops_at k r five below zeros lowest e) = omega (arith, is_done e, below)
+
+    done_words-le : 3 * done ≤ count_of words 0
+    done_words-le =
+        omega (
+          arith,
+          done-le (up_to-refusal f w s taken),
+          commands_fit (body words 0),
+          length-take (count_of words 0) (drop (start_of words 0) words),
+        )
+
+    -- the first words of the lent ones after the contents are those of the commands
+    commands_stand : take (3 * done) (drop 12 (words_after f w)) ≡ take (3 * done) (body words 0)
+    commands_stand =
+        let k = 3 * done in
+        let rest = drop (length f / 4) w in
+        ap (take k) (drop-append-le 12 words rest (omega (arith, commands_end)))
+        ∙ take-append-le k (drop 12 words) rest (omega (arith, length-drop 12 words, commands_end, done_words-le))
+        ∙ ap (λ (n : ℕ). take k (drop n words)) (sym starts_at_12)
+        ∙ sym (take-take k (count_of words 0) (drop (start_of words 0) words) done_words-le)
+
+    run-text : open_lines sheet.commands its_run.answers
+        ≡ open_lines_by_words (commands_of (take (3 * done) (drop 12 (words_after f w))))
+        (sums_in_threes (modulus 5) (take its_run.place.received.controller its_run.lent.received.controller))
+    run-text =
+        let handed = controller_adds_up 5 sheet.commands empty_place (lent_to_commands sheet s) in
+        run_lines 5 sheet.commands empty_place (lent_to_commands sheet s)
+        ∙ ap₂ open_lines_by_words (sym (ap commands_of commands_stand ∙ commands_taken done (body words 0)))
+        (handed.add_up ∙ ap (sums_in_threes (modulus 5)) (sym handed.received))
+
+    run-reported : IsReported (outcome_of_run its_run (words_after f w))
+    unfolding text_of text_by_shares
+    run-reported =
+        let a = (outcome_of_run its_run (words_after f w)).answer in
+        record {
+          text = ap (λ (l : List ℕ). cond (is_early a.number) (refusal_line a.number) (l ++ last_line a)) run-text;
+          readable = λ e. record {
+            within_limit = omega (arith, done_words-le, at_most_384);
+            has_commands = omega (arith, done_words-le, commands_end, length-append words (drop (length f / 4) w));
+            has_shares = (controller_adds_up 5 sheet.commands empty_place (lent_to_commands sheet s)).within (omega arith);
+          };
+        }
+
+  pub session-reported : IsReported (session f w s)
+  session-reported = by_exact (exact f w s) refl
+    where
+      by_exact : {v : ℕ} → FirstRefusal (AppliesToSession f w s) 1 v → early_refusal f w s ≡ v → IsReported (session f w s)
+      by_exact (passes z none) e =
+          subst IsReported (sym (session-run f w s (e ∙ z)))
+          (run-reported (e ∙ z) (is_taken f w s none))
+      by_exact (refuses r a below) e =
+          let b = bounds f w s a in subst IsReported (sym (session-applies f w s a e)) (refusal-reported r b.0 b.1)
 
 -- ---- as the code has it
 
 module _ (a : SessionAnswer) (w shares : List ℕ) where
-  pub early_text : is_early a.number ≡ true → text_from a w shares ≡ refused_line a.number
-  unfolding text_from
+  pub early_text : is_early a.number ≡ true → text_by_shares a w shares ≡ refusal_line a.number
+  unfolding text_by_shares
   early_text e = rw e
 
   -- the lines of opens among the first words of the commands
   abbrev pub opens_in : ℕ → List ℕ
-  opens_in n = lines_with (commands_of (take n (drop 12 w))) (sums_in_threes (modulus 5) (take a.place.received.controller shares))
+  opens_in n = open_lines_by_words (commands_of (take n (drop 12 w))) (sums_in_threes (modulus 5) (take a.place.received.controller shares))
 
-  pub late_text : (n : ℕ) → n ≡ 3 * a.done → is_early a.number ≡ false → text_from a w shares ≡ opens_in n ++ last_line a
-  unfolding text_from
+  pub late_text : (n : ℕ) → n ≡ 3 * a.done → is_early a.number ≡ false → text_by_shares a w shares ≡ opens_in n ++ last_line a
+  unfolding text_by_shares
   late_text n en e = rw (en, e)
 
-module _ (f w : List ℕ) (s : State) (out : List ℕ) where
-  pub long-put : {m : List ℕ} {n r : ℕ} → 30768 < length f → n ≡ 3 → m ≡ sets out 0 (refused_line n) → r ≡ length (refused_line n)
-      → rendered r m w s ≡ into out (pool f w s)
-  unfolding pool
-  long-put h en e er = rw (lt-ltb 30768 (length f) h, ← en) (ap₂ (λ (k : ℕ) (o : List ℕ). rendered k o w s) er e)
+module _ (f w : List ℕ) (s : State) where
+  -- a file that is too long
+  pub pool-long : {a : SessionAnswer} (shares : List ℕ) {t : List ℕ} → 30768 < length f → a ≡ session_answer 0 empty_place 3
+      → t ≡ text_by_shares a w shares → pool_outcome t w s ≡ pool f w s
+  unfolding pool text_by_shares
+  pool-long shares h ea et = rw (lt-ltb 30768 (length f) h, et, ea)
 
-  pub run-put : (a : SessionAnswer) (v : List ℕ) (t : State) {m : List ℕ} {r : ℕ} → length f ≤ 30768 → outcome a v t ≡ session f w s
-      → m ≡ sets out 0 (text_from a v t.received.controller) → r ≡ length (text_from a v t.received.controller)
-      → rendered r m v t ≡ into out (pool f w s)
-  unfolding pool
-  run-put a v t h e em er =
-      rw (le-ltb 30768 (length f) h)
-      ((λ i. rendered (er i) (em i) v t)
-      ∙ ap (λ (o : Outcome). into out (printed (text_from o.answer o.words o.state.received.controller) o.words o.state)) e
-      ∙ ap (λ (x : List ℕ). into out (printed x (session f w s).words (session f w s).state)) (sym (told f w s).text))
+  module _ (a : SessionAnswer) (v : List ℕ) (t : State) (e : session_outcome a v t ≡ session f w s) where
+    pub pool-run : {x : List ℕ} → length f ≤ 30768 → x ≡ text_by_shares a v t.received.controller → pool_outcome x v t ≡ pool f w s
+    unfolding pool
+    pool-run h ex =
+        rw (le-ltb 30768 (length f) h)
+        (ap (λ (y : List ℕ). pool_outcome y v t) ex
+        ∙ ap (λ (o : SessionOutcome). pool_outcome (text_by_shares o.answer o.words o.state.received.controller) o.words o.state) e
+        ∙ ap (λ (y : List ℕ). pool_outcome y (session f w s).words (session f w s).state) (sym (session-reported f w s).text))
 
-  pub left_readable : (a : SessionAnswer) (v : List ℕ) (t : State) → outcome a v t ≡ session f w s
-      → is_early a.number ≡ false → Readable a v t.received.controller
-  left_readable a v t e =
-      subst (λ (o : Outcome). is_early o.answer.number ≡ false → Readable o.answer o.words o.state.received.controller) (sym e)
-      (told f w s).readable
+    pub is_readable : is_early a.number ≡ false → IsReadable a v t.received.controller
+    is_readable =
+        subst (λ (o : SessionOutcome). is_early o.answer.number ≡ false → IsReadable o.answer o.words o.state.received.controller) (sym e)
+        (session-reported f w s).readable

@@ -5,37 +5,30 @@ use mathlib.Core.List.{List}
 use Rattle.protocols.specs.declared.place.Place.{Place}
 use Rattle.protocols.specs.Place.{tapes}
 use Rattle.machine.specs.declared.code.Command.{Command}
-use Rattle.machine.specs.Lent.{Lent, lent}
+use Rattle.machine.specs.Lent.{Lent, lent_lists}
 use Rattle.machine.specs.Command as machine
-use Rattle.machine.specs.Run.{run_to_refusal, commands_of, accepted, Ended, end_of, empty}
+use Rattle.machine.specs.Run.{run_to_refusal, commands_of, accepted_count, RunOutcome, run_outcome_of, empty_place}
 use Rattle.machine.proofs.Laws.RunTurns.{last_place, last_number}
 use Rattle.session.specs.Contents.{body, sheet_of}
-use Rattle.session.specs.Session.{State, state_of, answer, Finish, finish, finished, run_of}
+use Rattle.session.specs.Session.{State, state_of, lent_to_commands, session_answer, SessionOutcome, session_outcome, outcome_of_run, run_of}
 
--- an end, as a session answers it
-abbrev pub finish_of : Ended → Finish
-finish_of e = finish (answer e.run.done e.run.last.place e.run.last.number) (state_of e.lent)
+-- an end, as a session answers it, with the words w
+abbrev pub outcome_of_end : List ℕ → RunOutcome → SessionOutcome
+outcome_of_end w e = session_outcome (session_answer e.run.done e.run.last.place e.run.last.number) w (state_of e.lent)
 
-finish_end : (cs : List Command) (l : Lent) → finish_of (end_of empty (run_to_refusal 5 cs empty l)) ≡ finished (run_to_refusal 5 cs empty l)
-finish_end cs l =
-    let r = run_to_refusal 5 cs empty l in
-    let a = machine.answer 0 empty 0 in
-    sym (λ i. finish (answer (accepted r.answers) (last_place 5 cs l a i) (last_number 5 cs l a refl i)) (state_of r.lent))
+end_of_run : (w : List ℕ) (cs : List Command) (l : Lent)
+    → outcome_of_end w (run_outcome_of empty_place (run_to_refusal 5 cs empty_place l)) ≡ outcome_of_run (run_to_refusal 5 cs empty_place l) w
+end_of_run w cs l =
+    let r = run_to_refusal 5 cs empty_place l in
+    let a = machine.answer 0 empty_place 0 in
+    sym (λ i. session_outcome (session_answer (accepted_count r.answers) (last_place 5 cs l a i) (last_number 5 cs l a refl i)) w (state_of r.lent))
 
--- the bodies, each a part of the words
-run_bodies : (w : List ℕ) (s : State) {commands inputs provider one two three : List ℕ} → commands ≡ body w 0 → inputs ≡ body w 1
-    → provider ≡ body w 2 → one ≡ body w 3 → two ≡ body w 4 → three ≡ body w 5
-    → finished (run_to_refusal 5 (commands_of commands) empty (lent s.tables s.kinds inputs (tapes provider one two three) s.received))
-    ≡ finished (run_of (sheet_of w) s)
-run_bodies w s c i p x y z =
-    λ k. finished (run_to_refusal 5 (commands_of (c k)) empty (lent s.tables s.kinds (i k) (tapes (p k) (x k) (y k) (z k)) s.received))
-
--- the run of the bodies, from the empty place
-pub run-finished : (w : List ℕ) (s : State) {commands inputs provider one two three : List ℕ} → commands ≡ body w 0 → inputs ≡ body w 1
-    → provider ≡ body w 2 → one ≡ body w 3 → two ≡ body w 4 → three ≡ body w 5 → {p : Place} → p ≡ empty → {e : Ended}
-    → e ≡ end_of p (run_to_refusal 5 (commands_of commands) p (lent s.tables s.kinds inputs (tapes provider one two three) s.received))
-    → finish_of e ≡ finished (run_of (sheet_of w) s)
-run-finished w s {commands} {inputs} {provider} {one} {two} {three} c i t x y z h r =
-    let l = lent s.tables s.kinds inputs (tapes provider one two three) s.received in
-    let start = ap (λ (q : Place). end_of q (run_to_refusal 5 (commands_of commands) q l)) h in
-    ap finish_of (r ∙ start) ∙ finish_end (commands_of commands) l ∙ run_bodies w s c i t x y z
+-- the run of the bodies, each a part of the words, from the empty place
+pub run_of-bodies : (w : List ℕ) (s : State) {commands inputs provider one two three : List ℕ} → commands ≡ body w 0 → inputs ≡ body w 1
+    → provider ≡ body w 2 → one ≡ body w 3 → two ≡ body w 4 → three ≡ body w 5 → {p : Place} → p ≡ empty_place → {e : RunOutcome}
+    → e ≡ run_outcome_of p (run_to_refusal 5 (commands_of commands) p (lent_lists s.tables s.kinds inputs (tapes provider one two three) s.received))
+    → outcome_of_end w e ≡ outcome_of_run (run_of (sheet_of w) s) w
+run_of-bodies w s c i p x y z h r =
+    ap (outcome_of_end w)
+    (r ∙ (λ k. run_outcome_of (h k) (run_to_refusal 5 (commands_of (c k)) (h k) (lent_lists s.tables s.kinds (i k) (tapes (p k) (x k) (y k) (z k)) s.received))))
+    ∙ end_of_run w (commands_of (body w 0)) (lent_to_commands (sheet_of w) s)

@@ -13,7 +13,7 @@ use Rattle.std.specs.Int.{from_le_bytes}
 use Rattle.std.specs.Simd.{first_chunks}
 use Rattle.protocols.proofs.Laws.Puts.{sets-append, sets_behind}
 use Rattle.protocols.proofs.Laws.Deliveries.{begins_with}
-use Rattle.session.specs.Words.{word, words_of}
+use Rattle.session.specs.Words.{word_of_bytes, words_of}
 
 pub length-words_of : (f : List ℕ) → length (words_of f) ≡ length f / 4
 unfolding words_of
@@ -27,15 +27,16 @@ length-words_of (a ∷ b ∷ c ∷ d ∷ r) = let h : length (words_of r) ≡ le
 four_suc : (i : ℕ) → 4 * suc i ≡ suc (suc (suc (suc (4 * i))))
 four_suc i = omega arith
 
--- the words of a file's first bytes are its first words
-pub words_of-first : (f : List ℕ) (n : ℕ) → words_of (take (4 * n) f) ≡ take n (words_of f)
+-- the words of a file's first bytes are its first words, and those of the rest are the others
+pub words_of-cut : (f : List ℕ) (n : ℕ) → (words_of (take (4 * n) f) ≡ take n (words_of f)) × (words_of (drop (4 * n) f) ≡ drop n (words_of f))
 unfolding words_of
-words_of-first f zero = refl
-words_of-first [] (suc n) = rw (four_suc n) refl
-words_of-first (a ∷ []) (suc n) = rw (four_suc n) refl
-words_of-first (a ∷ b ∷ []) (suc n) = rw (four_suc n) refl
-words_of-first (a ∷ b ∷ c ∷ []) (suc n) = rw (four_suc n) refl
-words_of-first (a ∷ b ∷ c ∷ d ∷ r) (suc n) = rw (four_suc n) (ap (λ w. word a b c d ∷ w) (words_of-first r n))
+words_of-cut f zero = (refl, refl)
+words_of-cut [] (suc n) = rw (four_suc n) (refl, refl)
+words_of-cut (a ∷ []) (suc n) = rw (four_suc n) (refl, refl)
+words_of-cut (a ∷ b ∷ []) (suc n) = rw (four_suc n) (refl, refl)
+words_of-cut (a ∷ b ∷ c ∷ []) (suc n) = rw (four_suc n) (refl, refl)
+words_of-cut (a ∷ b ∷ c ∷ d ∷ r) (suc n) =
+    let e = words_of-cut r n in rw (four_suc n) (ap (λ w. word_of_bytes a b c d ∷ w) e.0, e.1)
 
 -- ---- decoding, a word a turn
 
@@ -50,11 +51,11 @@ chunk_word (a ∷ b ∷ c ∷ d ∷ r) (suc k) zero h e = omega arith
 chunk_word (a ∷ b ∷ c ∷ d ∷ r) (suc k) (suc i) h e = chunk_word r k i (omega arith) (omega arith)
 
 -- the words d with the first i words of bytes put at a place
-abbrev pub decoded : List ℕ → List ℕ → ℕ → ℕ → List ℕ
-decoded d f at i = sets d at (take i (words_of f))
+abbrev pub with_first_words : List ℕ → List ℕ → ℕ → ℕ → List ℕ
+with_first_words d f at i = sets d at (take i (words_of f))
 
 pub decode_turn : (d f w : List ℕ) (cs : List (List ℕ)) (at i r : ℕ) → cs ≡ first_chunks 4 (length f / 4) f → i < length f / 4
-    → r ≡ from_le_bytes w32 (get_or cs i []) → w ≡ decoded d f at i → set w (at + i) r ≡ decoded d f at (i + 1)
+    → r ≡ from_le_bytes w32 (get_or cs i []) → w ≡ with_first_words d f at i → set w (at + i) r ≡ with_first_words d f at (i + 1)
 decode_turn d f w cs at i r ec h er ew =
     let n : length (take i (words_of f)) ≡ i = length-take-le i (words_of f) (omega (arith, h, length-words_of f)) in
     let g : r ≡ get_or (words_of f) i 0 = er ∙ ap (λ (c : List (List ℕ)). from_le_bytes w32 (get_or c i [])) ec ∙ chunk_word f (length f / 4) i h (omega arith) in
@@ -63,16 +64,6 @@ decode_turn d f w cs at i r ec h er ew =
     ∙ ap (sets d at) (sym (take_more (words_of f) i 0 (omega (arith, h, length-words_of f))))
 
 -- ---- by four
-
--- the words after the first n
-words_of-rest : (f : List ℕ) (n : ℕ) → words_of (drop (4 * n) f) ≡ drop n (words_of f)
-unfolding words_of
-words_of-rest f zero = refl
-words_of-rest [] (suc n) = rw (four_suc n) refl
-words_of-rest (a ∷ []) (suc n) = rw (four_suc n) refl
-words_of-rest (a ∷ b ∷ []) (suc n) = rw (four_suc n) refl
-words_of-rest (a ∷ b ∷ c ∷ []) (suc n) = rw (four_suc n) refl
-words_of-rest (a ∷ b ∷ c ∷ d ∷ r) (suc n) = rw (four_suc n) (words_of-rest r n)
 
 -- block i of so many
 block_is : (f : List ℕ) (k i : ℕ) → i < k → get_or (first_chunks 16 k f) i [] ≡ take 16 (drop (16 * i) f)
@@ -84,7 +75,7 @@ block_is f (suc k) (suc i) h =
 
 -- a block's words are the next four
 pub block_turn : (d f w b : List ℕ) (cs : List (List ℕ)) (i : ℕ) → cs ≡ first_chunks 16 (length f / 16) f → i < length f / 16 → b ≡ get_or cs i []
-    → w ≡ decoded d f 0 (4 * i) → sets w (4 * i) (words_of b) ≡ decoded d f 0 (4 * (i + 1))
+    → w ≡ with_first_words d f 0 (4 * i) → sets w (4 * i) (words_of b) ≡ with_first_words d f 0 (4 * (i + 1))
 block_turn d f w b cs i ec h eb ew =
     let q = words_of f in
     let n : length (take (4 * i) q) ≡ 4 * i = length-take-le (4 * i) q (omega (arith, h, length-words_of f)) in
@@ -92,20 +83,20 @@ block_turn d f w b cs i ec h eb ew =
     let m : 4 * i + 4 ≡ 4 * (i + 1) = omega arith in
     let g : words_of b ≡ take 4 (drop (4 * i) q) =
     ap words_of (eb ∙ ap (λ (c : List (List ℕ)). get_or c i []) ec ∙ block_is f (length f / 16) i h ∙ ap (λ (k : ℕ). take 16 (drop k f)) e)
-    ∙ words_of-first (drop (4 * (4 * i)) f) 4 ∙ ap (take 4) (words_of-rest f (4 * i)) in
+    ∙ (words_of-cut (drop (4 * (4 * i)) f) 4).0 ∙ ap (take 4) (words_of-cut f (4 * i)).1 in
     (λ j. sets (ew j) (4 * i) (g j))
     ∙ sets_behind d (take (4 * i) q) (take 4 (drop (4 * i) q)) (4 * i) (sym n)
     ∙ ap (sets d 0) (sym (take-add (4 * i) 4 q) ∙ ap (λ (k : ℕ). take k q) m)
 
 -- and what is left after the blocks comes last
-pub rest_turn : (d f w r : List ℕ) → length f / 4 ≤ length d → r ≡ drop (length f / 16 * 16) f → w ≡ decoded d f 0 (4 * (length f / 16))
+pub rest_turn : (d f w r : List ℕ) → length f / 4 ≤ length d → r ≡ drop (length f / 16 * 16) f → w ≡ with_first_words d f 0 (4 * (length f / 16))
     → sets w (4 * (length f / 16)) (words_of r) ≡ words_of f ++ drop (length f / 4) d
 rest_turn d f w r h er ew =
     let q = words_of f in
     let k = 4 * (length f / 16) in
     let n : length (take k q) ≡ k = length-take-le k q (omega (arith, length-words_of f)) in
     let e : length f / 16 * 16 ≡ 4 * k = omega arith in
-    let g : words_of r ≡ drop k q = ap words_of (er ∙ ap (λ (i : ℕ). drop i f) e) ∙ words_of-rest f k in
+    let g : words_of r ≡ drop k q = ap words_of (er ∙ ap (λ (i : ℕ). drop i f) e) ∙ (words_of-cut f k).1 in
     (λ j. sets (ew j) k (g j))
     ∙ sets_behind d (take k q) (drop k q) k (sym n)
     ∙ ap (sets d 0) (take-append-drop k q)
@@ -113,5 +104,5 @@ rest_turn d f w r h er ew =
     ∙ ap (λ (i : ℕ). q ++ drop i d) (length-words_of f)
 
 -- the part of the lent words that holds the file's
-pub front : (f w : List ℕ) → take (length f / 4) (words_of f ++ drop (length f / 4) w) ≡ words_of f
-front f w = take_at (words_of f) (drop (length f / 4) w) (length f / 4) (length-words_of f)
+pub take-words_after : (f w : List ℕ) → take (length f / 4) (words_of f ++ drop (length f / 4) w) ≡ words_of f
+take-words_after f w = take_at (words_of f) (drop (length f / 4) w) (length f / 4) (length-words_of f)

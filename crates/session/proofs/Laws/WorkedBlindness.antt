@@ -1,4 +1,4 @@
--- Entry 3 for one session, from entry 3 for all: the pairings of its tapes, and what equal records say.
+-- Blindness of one session, from that of all: the pairings of its tapes, and what equal records say.
 use Prim.Native.Nat.{ℕ, zero, suc, ◌<◌, ◌^◌}
 use mathlib.Core.Path.{◌≡◌, refl, sym, ap, ap₂, ◌∙◌, subst}
 use mathlib.Core.Bool.{cond}
@@ -14,37 +14,35 @@ use Rattle.protocols.specs.declared.place.Place.{Place}
 use Rattle.protocols.specs.Word.{modulus, mul}
 use Rattle.protocols.specs.Shares.{Miner}
 use Rattle.protocols.specs.Place.{Tapes, counts}
-use Rattle.protocols.specs.Contents.{Below, Words, Contents}
+use Rattle.protocols.specs.Contents.{AllBelow, Words, Contents}
 use Rattle.machine.specs.declared.code.Command.{Command}
-use Rattle.machine.specs.declared.code.Code.{Code}
-use Rattle.machine.specs.declared.code.Code.TheVariants.{Store, Multiply, Open}
+use Rattle.machine.specs.Table.{Code, Store, Multiply, Open, code_named}
 use Rattle.machine.specs.declared.lent.Sizes.{Sizes}
 use Rattle.machine.specs.declared.refusal.Refusal.{Refusal}
-use Rattle.machine.specs.Refusal.{number as code_number}
-use Rattle.machine.specs.Table.{find}
+use Rattle.machine.specs.Refusal.{refusal_number as code_number}
 use Rattle.machine.specs.Lent.{lengths}
-use Rattle.machine.specs.Registers.{Registers, registers, judge, after, step, shown, leads_to_refusal}
-use Rattle.machine.specs.Verdict.{Verdict, Accepted, Refused, number, verdict}
-use Rattle.machine.specs.Run.{Ran, empty}
+use Rattle.machine.specs.Registers.{Registers, registers, judge, next_registers, step, opened_register, opened_registers_to_refusal}
+use Rattle.machine.specs.Verdict.{Verdict, Accepted, Refused, verdict_number, verdict}
+use Rattle.machine.specs.Run.{RunResult, empty_place}
 use Rattle.machine.specs.Records.{MinerRecord, miner_record, ControllerRecord, controller_record, SameReplies}
 use Rattle.machine.specs.Pairing.{Pairing}
 use Rattle.machine.proofs.Laws.Accepted.{all_passed}
 use Rattle.machine.proofs.Laws.Blind.Records.{miner_records, controller_records}
-use Rattle.machine.proofs.Laws.Blind.Refusal.{entry_3_to_refusal}
+use Rattle.machine.proofs.Laws.Blind.Refusal.{run_blindness_to_refusal}
 use Rattle.machine.specs.Claims.{BlindRuns}
 use Rattle.session.specs.Session.{State, run_of}
 use Rattle.session.specs.Claims.{sheet_with}
-use Rattle.session.proofs.Laws.Session.{numbered}
-use Rattle.session.specs.WorkedBlindness.{commands, ran, IsTape, AreTapes, SameAnswers, SameForMiner, SameForController, Hides, WorkedBlindness}
+use Rattle.machine.proofs.Laws.Rows.{refusal_number-positive}
+use Rattle.session.specs.WorkedBlindness.{commands, run_of_inputs, IsTape, AreTapes, SameAnswers, SameForMiner, SameForController, Hides, WorkedBlindness}
 
 -- ---- tapes of words
 
-below-words : (m : ℕ) (l : List ℕ) → Below m l → (k : ℕ) → k < length l → get_or l k 0 < m
+below-words : (m : ℕ) (l : List ℕ) → AllBelow m l → (k : ℕ) → k < length l → get_or l k 0 < m
 below-words m [] b k h = absurd (omega arith)
 below-words m (x ∷ l) b zero h = b.0
 below-words m (x ∷ l) b (suc k) h = below-words m l b.1 k (omega arith)
 
-words_below : (m : ℕ) (l : List ℕ) → ((k : ℕ) → k < length l → get_or l k 0 < m) → Below m l
+words_below : (m : ℕ) (l : List ℕ) → ((k : ℕ) → k < length l → get_or l k 0 < m) → AllBelow m l
 words_below m [] f = tt
 words_below m (x ∷ l) f = (f 0 (omega arith), words_below m l (λ k h. f (suc k) (omega arith)))
 
@@ -80,17 +78,17 @@ hides fits ok same P = record {
 
 -- ---- equal records
 
-same_answers : {r r' : Ran} → SameReplies r r' → SameAnswers r r'
+same_answers : {r r' : RunResult} → SameReplies r r' → SameAnswers r r'
 same_answers s = record { numbers = s.0; places = s.1 }
 
-for_miner : (i : Miner) (r r' : Ran) → miner_record i r ≡ miner_record i r' → SameForMiner i r r'
+for_miner : (i : Miner) (r r' : RunResult) → miner_record i r ≡ miner_record i r' → SameForMiner i r r'
 for_miner i r r' e = record {
   received = ap (λ (m : MinerRecord). m.received) e;
   shares = ap (λ (m : MinerRecord). m.shares) e;
   answers = same_answers (miner_records i r r' e).same_replies;
 }
 
-for_controller : (r r' : Ran) → controller_record r ≡ controller_record r' → SameForController r r'
+for_controller : (r r' : RunResult) → controller_record r ≡ controller_record r' → SameForController r r'
 for_controller r r' e = record {
   received = ap (λ (m : ControllerRecord). m.received) e;
   opened = ap (λ (m : ControllerRecord). m.opened) e;
@@ -99,52 +97,52 @@ for_controller r r' e = record {
 
 -- ---- 7 and 5 lead to the same opened words as 1 and 35
 
--- what a register machine is led to from a command on, whose verdict is v
-abbrev led : Verdict → Command → List Command → Sizes → List ℕ → Registers → List ℕ
-led v c cs z i m = shown 5 v c m ++ cond (eqb (number v) 0) (leads_to_refusal 5 cs z i (after 5 v c i m)) []
+-- what a register machine is words_led_to to from a command on, whose verdict is v
+abbrev words_led_to : Verdict → Command → List Command → Sizes → List ℕ → Registers → List ℕ
+words_led_to v c cs z i m = opened_register 5 v c m ++ cond (eqb (verdict_number v) 0) (opened_registers_to_refusal 5 cs z i (next_registers 5 v c i m)) []
 
-led_first : (c : Command) (cs : List Command) (z : Sizes) (i : List ℕ) (m : Registers) → leads_to_refusal 5 (c ∷ cs) z i m ≡ led (judge 5 c z m) c cs z i m
-unfolding leads_to_refusal step
-led_first c cs z i m = refl
+words_led_to-first : (c : Command) (cs : List Command) (z : Sizes) (i : List ℕ) (m : Registers) → opened_registers_to_refusal 5 (c ∷ cs) z i m ≡ words_led_to (judge 5 c z m) c cs z i m
+unfolding opened_registers_to_refusal step
+words_led_to-first c cs z i m = refl
 
-led_none : (z : Sizes) (i : List ℕ) (m : Registers) → leads_to_refusal 5 [] z i m ≡ []
-unfolding leads_to_refusal
-led_none z i m = refl
+words_led_to-none : (z : Sizes) (i : List ℕ) (m : Registers) → opened_registers_to_refusal 5 [] z i m ≡ []
+unfolding opened_registers_to_refusal
+words_led_to-none z i m = refl
 
-led-refused : (r : Refusal) (c : Command) (cs : List Command) (z : Sizes) (i : List ℕ) (m : Registers) → led (Refused r) c cs z i m ≡ []
-led-refused r c cs z i m = rw (ne_eqb (code_number r) 0 (λ e. omega (arith, numbered r, e)))
+words_led_to-refused : (r : Refusal) (c : Command) (cs : List Command) (z : Sizes) (i : List ℕ) (m : Registers) → words_led_to (Refused r) c cs z i m ≡ []
+words_led_to-refused r c cs z i m = rw (ne_eqb (code_number r) 0 (λ e. omega (arith, refusal_number-positive r, e)))
 
 -- the command that a code names is the one that is accepted
-accepts : (c : Command) (p : Place) (z : Sizes) (kinds : List ℕ) (x y : Code) → find c.code ≡ Ok x → verdict 5 c p z kinds ≡ Accepted y → y ≡ x
+accepts : (c : Command) (p : Place) (z : Sizes) (kinds : List ℕ) (x y : Code) → code_named c.code ≡ Ok x → verdict 5 c p z kinds ≡ Accepted y → y ≡ x
 accepts c p z kinds x y e v = let f = sym (all_passed 5 y c p z kinds v).known ∙ e in cc
 
--- two machines with the same counts and kinds are led to the same from the command x on, if they are where it is
+-- two machines with the same counts and kinds are words_led_to to the same from the command x on, if they are where it is
 -- accepted
-turn : (c : Command) (cs : List Command) (z : Sizes) (i j : List ℕ) (m k : Registers) (x : Code) → find c.code ≡ Ok x → judge 5 c z m ≡ judge 5 c z k
-    → shown 5 (Accepted x) c m ≡ shown 5 (Accepted x) c k
-    → leads_to_refusal 5 cs z i (after 5 (Accepted x) c i m) ≡ leads_to_refusal 5 cs z j (after 5 (Accepted x) c j k)
-    → leads_to_refusal 5 (c ∷ cs) z i m ≡ leads_to_refusal 5 (c ∷ cs) z j k
+turn : (c : Command) (cs : List Command) (z : Sizes) (i j : List ℕ) (m k : Registers) (x : Code) → code_named c.code ≡ Ok x → judge 5 c z m ≡ judge 5 c z k
+    → opened_register 5 (Accepted x) c m ≡ opened_register 5 (Accepted x) c k
+    → opened_registers_to_refusal 5 cs z i (next_registers 5 (Accepted x) c i m) ≡ opened_registers_to_refusal 5 cs z j (next_registers 5 (Accepted x) c j k)
+    → opened_registers_to_refusal 5 (c ∷ cs) z i m ≡ opened_registers_to_refusal 5 (c ∷ cs) z j k
 turn c cs z i j m k x known alike show next =
-    led_first c cs z i m ∙ by_verdict (judge 5 c z m) refl ∙ ap (λ (v : Verdict). led v c cs z j k) alike ∙ sym (led_first c cs z j k)
+    words_led_to-first c cs z i m ∙ by_verdict (judge 5 c z m) refl ∙ ap (λ (v : Verdict). words_led_to v c cs z j k) alike ∙ sym (words_led_to-first c cs z j k)
   where
-    by_verdict : (v : Verdict) → judge 5 c z m ≡ v → led v c cs z i m ≡ led v c cs z j k
+    by_verdict : (v : Verdict) → judge 5 c z m ≡ v → words_led_to v c cs z i m ≡ words_led_to v c cs z j k
     by_verdict (Accepted y) e =
-        subst (λ (w : Code). led (Accepted w) c cs z i m ≡ led (Accepted w) c cs z j k)
+        subst (λ (w : Code). words_led_to (Accepted w) c cs z i m ≡ words_led_to (Accepted w) c cs z j k)
         (sym (accepts c m.place z (map (λ r. r.kind) m.held) x y known e)) (ap₂ ◌++◌ show next)
-    by_verdict (Refused r) e = led-refused r c cs z i m ∙ sym (led-refused r c cs z j k)
+    by_verdict (Refused r) e = words_led_to-refused r c cs z i m ∙ sym (words_led_to-refused r c cs z j k)
 
 product : mul (modulus 5) 7 5 ≡ mul (modulus 5) 1 35
 unfolding mul
 product = refl
 
-led_alike : (z : Sizes) → leads_to_refusal 5 commands z (7 ∷ 5 ∷ []) (registers [] empty) ≡ leads_to_refusal 5 commands z (1 ∷ 35 ∷ []) (registers [] empty)
-led_alike z =
+same_words_led_to : (z : Sizes) → opened_registers_to_refusal 5 commands z (7 ∷ 5 ∷ []) (registers [] empty_place) ≡ opened_registers_to_refusal 5 commands z (1 ∷ 35 ∷ []) (registers [] empty_place)
+same_words_led_to z =
     let i = 7 ∷ 5 ∷ [] in
     let j = 1 ∷ 35 ∷ [] in
     turn _ _ z i j _ _ Store refl refl refl
     (turn _ _ z i j _ _ Store refl refl refl
     (turn _ _ z i j _ _ Multiply refl refl refl
-    (turn _ _ z i j _ _ Open refl refl (ap (λ (w : ℕ). w ∷ []) product) (led_none z _ _ ∙ sym (led_none z _ _)))))
+    (turn _ _ z i j _ _ Open refl refl (ap (λ (w : ℕ). w ∷ []) product) (words_led_to-none z _ _ ∙ sym (words_led_to-none z _ _)))))
 
 -- ---- the claim
 
@@ -153,12 +151,12 @@ worked_blindness s = record {
   miners = λ i own. hides
       (λ t h. record { tapes = are_tapes t h.0; its_own = h.1 })
       (λ t a. (contents t a.tapes, a.its_own))
-      (λ t u. for_miner i (ran s 7 5 t) (ran s 9 100 u))
+      (λ t u. for_miner i (run_of_inputs s 7 5 t) (run_of_inputs s 9 100 u))
       ((blind (9 ∷ 100 ∷ []) refl (lit< tt, (lit< tt, tt))).miner i own);
-  controller = hides are_tapes contents (λ t u. for_controller (ran s 7 5 t) (ran s 1 35 u))
-      ((blind (1 ∷ 35 ∷ []) refl (lit< tt, (lit< tt, tt))).controller (led_alike (lengths s.tables s.kinds (7 ∷ 5 ∷ []) d s.received)));
+  controller = hides are_tapes contents (λ t u. for_controller (run_of_inputs s 7 5 t) (run_of_inputs s 1 35 u))
+      ((blind (1 ∷ 35 ∷ []) refl (lit< tt, (lit< tt, tt))).controller (same_words_led_to (lengths s.tables s.kinds (7 ∷ 5 ∷ []) d s.received)));
 }
   where
-    blind : (y : List ℕ) → 2 ≡ length y → Below (2 ^ 32) y → BlindRuns (2 ^ 32) d (λ i t. run_of (sheet_with commands i t) s)
-        (λ i. leads_to_refusal 5 commands (lengths s.tables s.kinds i d s.received) i (registers [] empty)) (7 ∷ 5 ∷ []) y
-    blind y e b = entry_3_to_refusal 5 commands s.tables s.kinds s.received d (7 ∷ 5 ∷ []) y e (lit< tt, (lit< tt, tt)) b
+    blind : (y : List ℕ) → 2 ≡ length y → AllBelow (2 ^ 32) y → BlindRuns (2 ^ 32) d (λ i t. run_of (sheet_with commands i t) s)
+        (λ i. opened_registers_to_refusal 5 commands (lengths s.tables s.kinds i d s.received) i (registers [] empty_place)) (7 ∷ 5 ∷ []) y
+    blind y e b = run_blindness_to_refusal 5 commands s.tables s.kinds s.received d (7 ∷ 5 ∷ []) y e (lit< tt, (lit< tt, tt)) b

@@ -4,59 +4,24 @@ use Rattle.protocols.specs.declared.place.Party.{Party}
 use Rattle.protocols.specs.declared.place.Party.TheVariants.{Provider, One, Two, Three}
 use Rattle.protocols.specs.declared.place.Place.{Place}
 use Rattle.protocols.specs.Parties.{PlayedApart}
-use Rattle.protocols.specs.Own.{share, Pair, input}
-use Rattle.protocols.proofs.Laws.Apart.Compose.{apart_then, apart-locally, apart-on, apart-unused, apart-within}
-use Rattle.protocols.proofs.Laws.Apart.{protocols_apart}
+use Rattle.protocols.proofs.Laws.Apart.Compose.{apart_then, apart-locally, apart-unused, apart-within}
 use Rattle.machine.specs.declared.code.Command.{Command}
-use Rattle.machine.specs.declared.code.Code.{Code}
-use Rattle.machine.specs.declared.code.Code.TheVariants.{Store, Add, Subtract, AddConstant, TimesConstant, Multiply}
-use Rattle.machine.specs.declared.code.Code.TheVariants.{Reshare, Bits, Bit, Equal, Open, Below}
-use Rattle.machine.specs.declared.given.Given.{Given}
 use Rattle.machine.specs.declared.lent.Sizes.{Sizes}
 use Rattle.machine.specs.declared.row.Row.{Row}
 use Rattle.machine.specs.Table.{row}
 use Rattle.machine.specs.Lent.{entry}
 use Rattle.machine.specs.Verdict.{Verdict, Accepted, Refused, verdict}
-use Rattle.machine.specs.Steps.{protocol}
-use Rattle.machine.specs.Command.{put}
+use Rattle.machine.specs.Command.{with_entry}
 use Rattle.machine.specs.Apart.{own_part}
+use Rattle.machine.proofs.Laws.Lawful.{OwnArguments, lawful}
 use Rattle.machine.proofs.Laws.Agree.{takes}
 use Rattle.machine.proofs.Laws.Blind.Public.{place_after, kinds_after}
 use Rattle.machine.proofs.Laws.Blind.RunProtocol.{step_protocol, run_protocol}
 
--- ---- the protocol of a command
-
--- what a command is given by a party: the next input by the provider, its shares of the operands by a miner
-record OwnGiven : Type 0 where
-  input : ℕ
-  u : ℕ
-  v : ℕ
-
-abbrev own_given : Party → Given → OwnGiven
-own_given i g = record { input = input i g.input; u = share i g.u; v = share i g.v }
-
-abbrev own_both : OwnGiven → Pair
-own_both g = record { u = g.u; v = g.v }
-
-protocol_apart : (n : ℕ) (x : Code) (b : ℕ) → PlayedApart (protocol n x b) own_given share
-unfolding protocol
-protocol_apart n Store b = apart-on (λ g. g.input) (λ i g. refl) (protocols_apart n).store_apart
-protocol_apart n Add b = apart-on own_both (λ i g. refl) (protocols_apart n).sum_apart
-protocol_apart n Subtract b = apart-on own_both (λ i g. refl) (protocols_apart n).difference_apart
-protocol_apart n AddConstant b = apart-on (λ g. g.u) (λ i g. refl) ((protocols_apart n).shifted_apart b)
-protocol_apart n TimesConstant b = apart-on (λ g. g.u) (λ i g. refl) ((protocols_apart n).multiple_apart b)
-protocol_apart n Multiply b = apart-on own_both (λ i g. refl) (protocols_apart n).multiply_apart
-protocol_apart n Reshare b = apart-on (λ g. g.u) (λ i g. refl) (protocols_apart n).reshare_apart
-protocol_apart n Bits b = apart-on (λ g. g.u) (λ i g. refl) (protocols_apart n).bits_apart
-protocol_apart n Bit b = apart-on (λ g. g.u) (λ i g. refl) ((protocols_apart n).bit_apart b)
-protocol_apart n Equal b = apart-on own_both (λ i g. refl) (protocols_apart n).equal_apart
-protocol_apart n Open b = apart-on (λ g. g.u) (λ i g. refl) (protocols_apart n).opening_apart
-protocol_apart n Below b = apart-on own_both (λ i g. refl) (protocols_apart n).below_apart
-
 -- ---- a command
 
 -- what a party takes from what it has, by the command and the place, which are public
-abbrev taken : Command → Place → Party → List ℕ → OwnGiven
+abbrev taken : Command → Place → Party → List ℕ → OwnArguments
 taken c p Provider h = record { input = get_or h p.inputs 0; u = 0; v = 0 }
 taken c p One h = record { input = 0; u = entry h c.a; v = entry h c.b }
 taken c p Two h = record { input = 0; u = entry h c.a; v = entry h c.b }
@@ -65,9 +30,9 @@ taken c p Three h = record { input = 0; u = entry h c.a; v = entry h c.b }
 -- and what it has then, with its share w of the new value
 abbrev left_with : Row → Place → Party → List ℕ → ℕ → List ℕ
 left_with x p Provider h w = h
-left_with x p One h w = put x.values h p.handles w
-left_with x p Two h w = put x.values h p.handles w
-left_with x p Three h w = put x.values h p.handles w
+left_with x p One h w = with_entry x.values h p.handles w
+left_with x p Two h w = with_entry x.values h p.handles w
+left_with x p Three h w = with_entry x.values h p.handles w
 
 step_apart : (n : ℕ) (v : Verdict) (c : Command) (p : Place) → PlayedApart (step_protocol n v c p) own_part own_part
 step_apart n (Accepted x) c p =
@@ -75,7 +40,7 @@ step_apart n (Accepted x) c p =
     (elim [ Provider ↦ λ l. refl | One ↦ λ l. refl | Two ↦ λ l. refl | Three ↦ λ l. refl ])
     (elim [ Provider ↦ λ l b. refl | One ↦ λ l b. refl | Two ↦ λ l b. refl | Three ↦ λ l b. refl ])
     (λ l b. refl)
-    (protocol_apart n x c.b)
+    ((lawful x).apart n c.b)
 step_apart n (Refused r) c p = apart-locally (λ i h. h) (λ i l. refl)
 
 -- ---- a list of commands

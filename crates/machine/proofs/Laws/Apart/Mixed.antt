@@ -5,20 +5,20 @@ use Rattle.protocols.specs.declared.place.Party.TheVariants.{Provider, One, Two,
 use Rattle.protocols.specs.declared.place.Place.{Place}
 use Rattle.protocols.specs.Shares.{Miner, one, two, three}
 use Rattle.protocols.specs.Place.{tape, owner, rest, count, counts, list}
-use Rattle.protocols.specs.Counts.{due}
-use Rattle.protocols.specs.Parties.{Connected, connected, connect}
+use Rattle.protocols.specs.Counts.{count_for}
+use Rattle.protocols.specs.Parties.{Connection, connection, connect}
 use Rattle.protocols.proofs.Laws.Apart.Compose.{tape-rest}
 use Rattle.protocols.proofs.Laws.Apart.Mixed.{mixed as of_both, by_list, connect-mixed, tape-mixed}
 use Rattle.machine.specs.declared.lent.Sizes.{Sizes}
 use Rattle.machine.specs.Lent.{Lent, sizes, table}
-use Rattle.machine.specs.Run.{Ran}
-use Rattle.machine.specs.Apart.{own_part, Programs, started, ComesTo, Apart, mixed, MixedRuns}
+use Rattle.machine.specs.Run.{RunResult}
+use Rattle.machine.specs.Apart.{own_part, Programs, process_of, ComesTo, HasPrograms, mixed_lent, MixedRuns}
 use Rattle.machine.proofs.Laws.Apart.Words.{same_words}
 
 -- ---- what is lent
 
 own_part-mixed : (first : Party → Bool) (l l' : Lent) (i : Party)
-    → own_part i (mixed first l l') ≡ of_both first (λ j. own_part j l) (λ j. own_part j l') i
+    → own_part i (mixed_lent first l l') ≡ of_both first (λ j. own_part j l) (λ j. own_part j l') i
 own_part-mixed first l l' = elim [ Provider ↦ refl | One ↦ refl | Two ↦ refl | Three ↦ refl ]
 
 length-either : (b : Bool) (x y : List ℕ) (n : ℕ) → length x ≡ n → length y ≡ n → length (cond b x y) ≡ n
@@ -27,7 +27,7 @@ length-either false x y n e f = f
 
 -- lists of the same lengths, mixed
 sizes-mixed : (first : Party → Bool) (l l' : Lent) (z : Sizes) → sizes l ≡ z → sizes l' ≡ z
-    → sizes (mixed first l l') ≡ z
+    → sizes (mixed_lent first l l') ≡ z
 sizes-mixed first l l' z e e' =
     let either = λ (i : Party) (n : Sizes → ℕ) (x y : List ℕ).
     λ (f : length x ≡ n (sizes l)) (g : length y ≡ n (sizes l')).
@@ -54,9 +54,9 @@ sizes-mixed first l l' z e e' =
 
 module _ (P : Programs) (p : Place) (first : Party → Bool) (l l' : Lent) where
   abbrev m : Lent
-  m = mixed first l l'
+  m = mixed_lent first l l'
 
-  started-mixed : (i : Party) → started P p m i ≡ of_both first (started P p l) (started P p l') i
+  started-mixed : (i : Party) → process_of P p m i ≡ of_both first (process_of P p l) (process_of P p l') i
   started-mixed i =
       let words : tape i (rest p.drawn m.tapes)
       ≡ drop (count i p.drawn) (cond (first i) (tape i l.tapes) (tape i l'.tapes)) =
@@ -64,33 +64,33 @@ module _ (P : Programs) (p : Place) (first : Party → Bool) (l l' : Lent) where
       (λ k. P.program i (own_part-mixed first l l' i k) (words k))
       ∙ elim (first i) as (λ b. P.program i (cond b (own_part i l) (own_part i l'))
       (drop (count i p.drawn) (cond b (tape i l.tapes) (tape i l'.tapes)))
-      ≡ cond b (started P p l i) (started P p l' i)) [
+      ≡ cond b (process_of P p l i) (process_of P p l' i)) [
         | true ↦ λ k. P.program i (own_part i l) (sym (tape-rest p.drawn l.tapes i) k)
         | false ↦ λ k. P.program i (own_part i l') (sym (tape-rest p.drawn l'.tapes i) k)
       ]
 
-  module _ (r r' r'' : Ran) (C : ComesTo P p l r) (C' : ComesTo P p l' r') (C'' : ComesTo P p m r'')
+  module _ (r r' r'' : RunResult) (C : ComesTo P p l r) (C' : ComesTo P p l' r') (C'' : ComesTo P p m r'')
       (sent : C.words ≡ C'.words) where
-    whole : connected (λ i. own_part i r''.lent) C''.words P.timetable
-        ≡ connected (of_both first (λ i. own_part i r.lent) (λ i. own_part i r'.lent)) C.words P.timetable
+    whole : connection (λ i. own_part i r''.lent) C''.words P.timetable
+        ≡ connection (of_both first (λ i. own_part i r.lent) (λ i. own_part i r'.lent)) C.words P.timetable
     whole =
         let a = C.plays in
         let b = C'.plays in
-        let words = λ (c : Connected (List ℕ)). c.received in
-        let times = λ (c : Connected (List ℕ)). c.sent in
+        let words = λ (c : Connection (List ℕ)). c.received in
+        let times = λ (c : Connection (List ℕ)). c.sent in
         sym C''.plays
         ∙ ap (connect P.rounds) (λ k i. started-mixed i k)
-        ∙ connect-mixed first P.rounds (started P p l) (started P p l') (ap words a ∙ sent ∙ sym (ap words b))
+        ∙ connect-mixed first P.rounds (process_of P p l) (process_of P p l') (ap words a ∙ sent ∙ sym (ap words b))
         (ap times a ∙ sym (ap times b))
-        ∙ (λ k. connected (of_both first (a k).ends (b k).ends) (a k).received (a k).sent)
+        ∙ (λ k. connection (of_both first (a k).ends (b k).ends) (a k).received (a k).sent)
 
     lists_mixed : r''.lent.received ≡ r.lent.received
     lists_mixed =
         by_list λ q.
-        C''.grown q
-        ∙ ap (λ (c : Connected (List ℕ)). let a = list q l.received in let k = due q p.received in
+        C''.gain q
+        ∙ ap (λ (c : Connection (List ℕ)). let a = list q l.received in let k = count_for q p.received in
         let w = list q c.received in take k a ++ (w ++ drop (k + length w) a)) whole
-        ∙ sym (C.grown q)
+        ∙ sym (C.gain q)
 
     tables-mixed : (i : Miner)
         → table i r''.lent.tables ≡ cond (first (owner i)) (table i r.lent.tables) (table i r'.lent.tables)
@@ -100,11 +100,11 @@ module _ (P : Programs) (p : Place) (first : Party → Bool) (l l' : Lent) where
       | three ↦ λ k. (whole k).ends Three
     ]
 
-pub mixed_runs : (runs : Place → Lent → Ran) (p : Place) (z : Sizes) (k : List ℕ) → Apart runs p z k
+pub mixed_runs : (runs : Place → Lent → RunResult) (p : Place) (z : Sizes) (k : List ℕ) → HasPrograms runs p z k
     → (l l' : Lent) → sizes l ≡ z → sizes l' ≡ z → l.kinds ≡ k → l'.kinds ≡ k
     → (first : Party → Bool) → MixedRuns runs p l l' first
 mixed_runs runs p z k (P, comes) l l' e e' f f' first =
-    let m = mixed first l l' in
+    let m = mixed_lent first l l' in
     let C = comes l e f in
     let C' = comes l' e' f' in
     let C'' = comes m (sizes-mixed first l l' z e e') f in

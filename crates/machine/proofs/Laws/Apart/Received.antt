@@ -9,7 +9,7 @@ use Rattle.std.proofs.lemmas.List.{take_all, take-append-drop, drop-drop}
 use Rattle.protocols.specs.declared.place.Place.{Place}
 use Rattle.protocols.specs.Shares.{one, two, three}
 use Rattle.protocols.specs.Place.{Tapes, cut, rest, silence, Receiver, miner, controller, list}
-use Rattle.protocols.specs.Counts.{due}
+use Rattle.protocols.specs.Counts.{count_for}
 use Rattle.protocols.proofs.Laws.Apart.Compose.{then_received}
 use Rattle.protocols.proofs.Laws.Blind.Compose.{then_result, list_followed}
 use Rattle.machine.specs.declared.code.Command.{Command}
@@ -19,11 +19,11 @@ use Rattle.machine.specs.Lent.{Lent, sizes}
 use Rattle.machine.specs.Verdict.{Verdict, Accepted, Refused, verdict}
 use Rattle.machine.specs.Claims.{Appended}
 use Rattle.machine.proofs.Laws.Accepted.{all_passed}
-use Rattle.machine.proofs.Laws.Steps.{steps_counted}
 use Rattle.machine.proofs.Laws.Entries.{due-moved}
 use Rattle.machine.proofs.Laws.Agree.{takes, sizes-left, appended}
 use Rattle.machine.proofs.Laws.Blind.Public.{place_after, kinds_after}
 use Rattle.machine.proofs.Laws.Blind.RunProtocol.{step_protocol, run_protocol}
+use Rattle.machine.proofs.Laws.Lawful.{lawful}
 
 -- ---- words after words
 
@@ -95,27 +95,27 @@ module _ (n : ℕ) (c : Command) (p : Place) (l : Lent) (b : Tapes) where
 
   -- the place moves on by what each list receives
   due-after : (v : Verdict) (r : Receiver)
-      → due r (place_after n v p).received ≡ due r p.received + length (list r ((step_protocol n v c p).received l b))
+      → count_for r (place_after n v p).received ≡ count_for r p.received + length (list r ((step_protocol n v c p).received l b))
   due-after (Accepted x) r =
       due-moved r p (row n x)
-      ∙ ap (λ (j : ℕ). due r p.received + j) (sym ((steps_counted n x c.b).long (takes n c p l x) b r))
+      ∙ ap (λ (j : ℕ). count_for r p.received + j) (sym (((lawful x).counted n c.b).long (takes n c p l x) b r))
   due-after (Refused q) r =
-      sym (ap (λ (w : List ℕ). due r p.received + length w) (no_words r) ∙ add-zero (due r p.received))
+      sym (ap (λ (w : List ℕ). count_for r p.received + length w) (no_words r) ∙ add-zero (count_for r p.received))
 
   command_appended : (v : Verdict) → verdict n c p (sizes l) l.kinds ≡ v → (r : Receiver)
       → let f = step_protocol n v c p in
-      Appended (list r l.received) (due r p.received) (list r (f.received l b)) (list r (f.result l b).received)
+      Appended (list r l.received) (count_for r p.received) (list r (f.received l b)) (list r (f.result l b).received)
   command_appended (Accepted x) e r = appended n c p l x (all_passed n x c p (sizes l) l.kinds e) b r
-  command_appended (Refused q) e r = nothing_more (list r l.received) (due r p.received) _ (no_words r)
+  command_appended (Refused q) e r = nothing_more (list r l.received) (count_for r p.received) _ (no_words r)
 
 -- ---- a list of commands
 
 pub commands_appended : (n : ℕ) (cs : List Command) (p : Place) (z : Sizes) (k : List ℕ) (l : Lent) (b : Tapes)
     → sizes l ≡ z → l.kinds ≡ k → (r : Receiver)
     → let f = run_protocol n cs p z k in
-    Appended (list r l.received) (due r p.received) (list r (f.received l b)) (list r (f.result l b).received)
+    Appended (list r l.received) (count_for r p.received) (list r (f.received l b)) (list r (f.result l b).received)
 unfolding run_protocol
-commands_appended n [] p z k l b e f r = nothing_more (list r l.received) (due r p.received) _ (no_words r)
+commands_appended n [] p z k l b e f r = nothing_more (list r l.received) (count_for r p.received) _ (no_words r)
 commands_appended n (c ∷ cs) p z k l b e f r =
     let v = verdict n c p z k in
     let q = place_after n v p in
@@ -132,10 +132,10 @@ commands_appended n (c ∷ cs) p z k l b e f r =
     let w₂ = list r (others.received l₁ b₂) in
     let at_first = command_appended n c p l b₁ v (λ i. verdict n c p (e i) (f i)) r in
     let same-kinds = kinds-left n c p l b₁ v ∙ ap (kinds_after n v p) f in
-    let later : Appended between (due r q.received) w₂ now =
+    let later : Appended between (count_for r q.received) w₂ now =
     commands_appended n cs q z j l₁ b₂ (sizes-kept n c p l b₁ v ∙ e) same-kinds r in
-    subst₂ (Appended before (due r p.received))
+    subst₂ (Appended before (count_for r p.received))
     (sym (ap (list r) (then_received first others l b) ∙ list_followed r (first.received l b₁) (others.received l₁ b₂)))
     (sym (ap (λ (m : Lent). list r m.received) (then_result first others l b)))
-    (appended_more before (due r p.received) w₁ between w₂ now at_first
+    (appended_more before (count_for r p.received) w₁ between w₂ now at_first
     (subst (λ (m : ℕ). Appended between m w₂ now) (due-after n c p l b₁ v r) later))

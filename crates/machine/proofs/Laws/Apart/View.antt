@@ -8,8 +8,8 @@ use Rattle.protocols.specs.Alone.{Alone, alone}
 use Rattle.protocols.proofs.Laws.Apart.Compose.{tape-rest}
 use Rattle.machine.specs.declared.lent.Sizes.{Sizes}
 use Rattle.machine.specs.Lent.{Lent, table}
-use Rattle.machine.specs.Run.{Ran}
-use Rattle.machine.specs.Apart.{own_part, Programs, ComesTo, Apart, SameView}
+use Rattle.machine.specs.Run.{RunResult}
+use Rattle.machine.specs.Apart.{own_part, Programs, ComesTo, HasPrograms, SameRunView}
 use Rattle.machine.proofs.Laws.Apart.Words.{same_words}
 
 -- ---- a miner's list and table, as the party's
@@ -26,7 +26,7 @@ own_part-owner three l = refl
 
 -- ---- what it has after a run
 
-module _ (P : Programs) (p : Place) (i : Miner) (l l' : Lent) (r r' : Ran)
+module _ (P : Programs) (p : Place) (i : Miner) (l l' : Lent) (r r' : RunResult)
     (C : ComesTo P p l r) (C' : ComesTo P p l' r') where
   -- what it has after them is what it comes to by itself
   same_table : table i l.tables ≡ table i l'.tables → tape (owner i) l.tapes ≡ tape (owner i) l'.tapes
@@ -45,9 +45,9 @@ module _ (P : Programs) (p : Place) (i : Miner) (l l' : Lent) (r r' : Ran)
       ∙ ap ends (C'.by_itself j)
       ∙ own_part-owner i r'.lent
 
-pub same_view : (runs : Place → Lent → Ran) (p : Place) (z : Sizes) (k : List ℕ)
-    → Apart runs p z k → SameView runs p z k
-same_view runs p z k (P, comes) i l l' e e' f f' held drawn received =
+pub same_run_view : (runs : Place → Lent → RunResult) (p : Place) (z : Sizes) (k : List ℕ)
+    → HasPrograms runs p z k → SameRunView runs p z k
+same_run_view runs p z k (P, comes) i l l' e e' f f' held drawn received =
     let C = comes l e f in
     let C' = comes l' e' f' in
     same_table P p i l l' (runs p l) (runs p l') C C' held drawn

@@ -5,14 +5,14 @@ use Rattle.std.proofs.lemmas.List.{length-take}
 use Rattle.std.specs.Prelude.{min}
 use Rattle.protocols.specs.declared.place.Place.{Place}
 use Rattle.protocols.specs.Place.{Receiver, list}
-use Rattle.protocols.specs.Counts.{due}
-use Rattle.protocols.specs.Parties.{Connected}
+use Rattle.protocols.specs.Counts.{count_for}
+use Rattle.protocols.specs.Parties.{Connection}
 use Rattle.protocols.proofs.Laws.Counts.{due-list_lengths}
 use Rattle.protocols.proofs.Laws.Apart.Lengths.{total, length-received}
 use Rattle.machine.specs.declared.lent.Sizes.{Sizes}
 use Rattle.machine.specs.Lent.{Lent, sizes}
-use Rattle.machine.specs.Run.{Ran}
-use Rattle.machine.specs.Apart.{Programs, started, ComesTo}
+use Rattle.machine.specs.Run.{RunResult}
+use Rattle.machine.specs.Apart.{Programs, process_of, ComesTo}
 
 -- equally long words, behind equally long fronts of the same list
 same_between : (a w d a' w' d' : List ℕ)
@@ -25,23 +25,23 @@ same_between a w d a' w' d' long as_long same =
 
 module _ (P : Programs) (p : Place) (q : Receiver) where
   -- the timetable says how many they are
-  number_of_words : (l : Lent) (r : Ran) (C : ComesTo P p l r) → length (list q C.words) ≡ total q P.timetable
+  number_of_words : (l : Lent) (r : RunResult) (C : ComesTo P p l r) → length (list q C.words) ≡ total q P.timetable
   number_of_words l r C =
-      subst (λ (c : Connected (List ℕ)). length (list q c.received) ≡ total q c.sent) C.plays
-      (length-received (List ℕ) P.rounds (started P p l) q)
+      subst (λ (c : Connection (List ℕ)). length (list q c.received) ≡ total q c.sent) C.plays
+      (length-received (List ℕ) P.rounds (process_of P p l) q)
 
   -- and the place and the list's length, how many stand in front of them
   abbrev in_front : Sizes → ℕ
-  in_front z = min (due q p.received) (due q z.received)
+  in_front z = min (count_for q p.received) (count_for q z.received)
 
-  number_in_front : (l : Lent) → length (take (due q p.received) (list q l.received)) ≡ in_front (sizes l)
+  number_in_front : (l : Lent) → length (take (count_for q p.received) (list q l.received)) ≡ in_front (sizes l)
   number_in_front l =
-      length-take (due q p.received) (list q l.received)
-      ∙ ap (min (due q p.received)) (sym (due-list_lengths q l.received))
+      length-take (count_for q p.received) (list q l.received)
+      ∙ ap (min (count_for q p.received)) (sym (due-list_lengths q l.received))
 
-  pub same_words : (l l' : Lent) (r r' : Ran) (C : ComesTo P p l r) (C' : ComesTo P p l' r')
+  pub same_words : (l l' : Lent) (r r' : RunResult) (C : ComesTo P p l r) (C' : ComesTo P p l' r')
       → sizes l ≡ sizes l' → list q r.lent.received ≡ list q r'.lent.received → list q C.words ≡ list q C'.words
   same_words l l' r r' C C' e same =
       same_between _ _ _ _ _ _ (number_in_front l ∙ ap in_front e ∙ sym (number_in_front l'))
       (number_of_words l r C ∙ sym (number_of_words l' r' C'))
-      (sym (C.grown q) ∙ same ∙ C'.grown q)
+      (sym (C.gain q) ∙ same ∙ C'.gain q)

@@ -7,10 +7,10 @@ use lib.ListN.{get_or, take}
 use Rattle.protocols.specs.declared.place.Place.{Place}
 use Rattle.protocols.specs.Shares.{Miner}
 use Rattle.protocols.specs.Place.{Receiver, miner, controller, list}
-use Rattle.protocols.specs.Counts.{due}
+use Rattle.protocols.specs.Counts.{count_for}
 use Rattle.machine.specs.declared.answer.Answer.{Answer}
 use Rattle.machine.specs.Lent.{table, received_words}
-use Rattle.machine.specs.Run.{Ran, Reply, reply}
+use Rattle.machine.specs.Run.{RunResult, Reply, reply}
 use Rattle.machine.specs.Records.{MinerRecord, miner_record, ControllerRecord, controller_record, SameReplies, SameWords, SameToMiner, SameToController}
 
 -- ---- lists by their entries
@@ -34,14 +34,14 @@ places : (l : List Answer) → map (λ (a : Reply). a.place) (map reply l) ≡ m
 places [] = refl
 places (a ∷ l) = ap (λ (t : List Place). a.place ∷ t) (places l)
 
-replies-same : (r r' : Ran) → map reply r.answers ≡ map reply r'.answers → SameReplies r r'
+replies-same : (r r' : RunResult) → map reply r.answers ≡ map reply r'.answers → SameReplies r r'
 replies-same r r' e =
     (sym (numbers r.answers) ∙ ap (map (λ (a : Reply). a.number)) e ∙ numbers r'.answers, sym (places r.answers) ∙ ap (map (λ (a : Reply). a.place)) e ∙ places r'.answers)
 
-words_same : (q : Receiver) (r r' : Ran) → received_words r.place r.lent q ≡ received_words r'.place r'.lent q → SameWords q r r'
-words_same q r r' e k h h' = taken-same (list q r.lent.received) (list q r'.lent.received) (due q r.place.received) (due q r'.place.received) k e h h'
+words_same : (q : Receiver) (r r' : RunResult) → received_words r.place r.lent q ≡ received_words r'.place r'.lent q → SameWords q r r'
+words_same q r r' e k h h' = taken-same (list q r.lent.received) (list q r'.lent.received) (count_for q r.place.received) (count_for q r'.place.received) k e h h'
 
-pub miner_records : (i : Miner) (r r' : Ran) → miner_record i r ≡ miner_record i r' → SameToMiner i r r'
+pub miner_records : (i : Miner) (r r' : RunResult) → miner_record i r ≡ miner_record i r' → SameToMiner i r r'
 miner_records i r r' e = record {
   same_tape = ap (λ (m : MinerRecord). m.tape) e;
   same_shares = λ h f f'. taken-same (table i r.lent.tables) (table i r'.lent.tables) r.place.handles r'.place.handles (h - 1)
@@ -50,7 +50,7 @@ miner_records i r r' e = record {
   same_replies = replies-same r r' (ap (λ (m : MinerRecord). m.replies) e);
 }
 
-pub controller_records : (r r' : Ran) → controller_record r ≡ controller_record r' → SameToController r r'
+pub controller_records : (r r' : RunResult) → controller_record r ≡ controller_record r' → SameToController r r'
 controller_records r r' e = record {
   same_words = words_same controller r r' (ap (λ (m : ControllerRecord). m.received) e);
   same_opened = ap (λ (m : ControllerRecord). m.opened) e;

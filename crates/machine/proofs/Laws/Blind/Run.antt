@@ -10,35 +10,32 @@ use Rattle.protocols.specs.Word.{modulus}
 use Rattle.protocols.specs.Shares.{Miner, one, two, three, at, sum_of}
 use Rattle.protocols.specs.Place.{Tapes, Receiver, miner, controller, list}
 use Rattle.protocols.specs.Contents.{Contents}
-use Rattle.protocols.specs.Counts.{due}
+use Rattle.protocols.specs.Counts.{count_for}
 use Rattle.protocols.specs.Blind.{Observer, Sees, SameShares, Blind}
 use Rattle.protocols.proofs.Laws.Blind.Compose.{blind_then, blind_unmasked}
 use Rattle.machine.specs.declared.code.Command.{Command}
 use Rattle.machine.specs.declared.refusal.Refusal.{Refusal}
-use Rattle.machine.specs.declared.code.Code.{Code}
-use Rattle.machine.specs.declared.code.Code.TheVariants.{Open}
+use Rattle.machine.specs.Table.{Code, Open, kind_number, row, opens_value, with_row}
 use Rattle.machine.specs.declared.lent.Sizes.{Sizes}
-use Rattle.machine.specs.Table.{kind_number, row, opens, moved}
-use Rattle.machine.specs.Lent.{Tables, Lent, table, sizes, entry, shares_at, AreWords}
+use Rattle.machine.specs.Lent.{Tables, Lent, table, sizes, entry, shares_at, LentAreWords}
 use Rattle.machine.specs.Verdict.{Verdict, Accepted, Refused, verdict}
 use Rattle.machine.specs.Steps.{protocol}
-use Rattle.machine.specs.Command.{put}
-use Rattle.machine.specs.Registers.{Registers, named, judge, after, step, shown, leads}
-use Rattle.machine.specs.Start.{start}
+use Rattle.machine.specs.Command.{with_entry}
+use Rattle.machine.specs.Registers.{Registers, register_at, judge, next_registers, step, opened_register, opened_registers}
+use Rattle.machine.specs.Start.{starting_registers}
 use Rattle.machine.proofs.Laws.Accepted.{Passed, all_passed}
-use Rattle.machine.proofs.Laws.Steps.{GivenAreWords}
 use Rattle.machine.proofs.Laws.Entries.{list-with_words}
 use Rattle.machine.proofs.Laws.Judge.{judge-same}
 use Rattle.machine.proofs.Laws.Agree.{takes, makes, sends, leaves, sizes-left, table-left, given_are_words, words_left, start_left, open_names}
-use Rattle.machine.proofs.Laws.Blind.Steps.{SameGiven, steps_blind}
 use Rattle.machine.proofs.Laws.Blind.Public.{place_after, kinds_after}
 use Rattle.machine.proofs.Laws.Blind.RunProtocol.{step_protocol, run_protocol}
+use Rattle.machine.proofs.Laws.Lawful.{ArgumentsAreWords, SameArguments, lawful}
 
 -- ---- what is lent, before a command
 
 -- it is words, and of the lengths and kinds that are public
 pub record Held (n : ℕ) (p : Place) (z : Sizes) (k : List ℕ) (l : Lent) : Type 0 where
-  pub words : AreWords (modulus n) p l
+  pub words : LentAreWords (modulus n) p l
   pub sized : sizes l ≡ z
   pub kinds : l.kinds ≡ k
 
@@ -50,7 +47,7 @@ pub record Seen (o : Observer) (l l' : Lent) : Type 0 where
 -- and, for the controller, leads to the same opened words by the commands to come
 pub record Alike (n : ℕ) (o : Observer) (cs : List Command) (p : Place) (z : Sizes) (l l' : Lent) : Type 0 where
   pub seen : Seen o l l'
-  pub leading : Sees o controller → leads n cs z l.inputs (start n p l) ≡ leads n cs z l'.inputs (start n p l')
+  pub leading : Sees o controller → opened_registers n cs z l.inputs (starting_registers n p l) ≡ opened_registers n cs z l'.inputs (starting_registers n p l')
 
 -- ---- lists of opened words
 
@@ -59,9 +56,9 @@ shown_parts true w w' r r' e = (λ f. ap (λ (l : List ℕ). get_or l 0 0) e, ap
 shown_parts false w w' r r' e = (λ f. cc, e)
 
 leads_by : (n : ℕ) (c : Command) (cs : List Command) (z : Sizes) (i : List ℕ) (m : Registers) (v : Verdict) → judge n c z m ≡ v
-    → leads n (c ∷ cs) z i m ≡ shown n v c m ++ leads n cs z i (after n v c i m)
-unfolding leads step
-leads_by n c cs z i m v e = ap (λ (u : Verdict). shown n u c m ++ leads n cs z i (after n u c i m)) e
+    → opened_registers n (c ∷ cs) z i m ≡ opened_register n v c m ++ opened_registers n cs z i (next_registers n v c i m)
+unfolding opened_registers step
+leads_by n c cs z i m v e = ap (λ (u : Verdict). opened_register n u c m ++ opened_registers n cs z i (next_registers n u c i m)) e
 
 at-shares_at : (i : Miner) (t : Tables) (h : ℕ) → at i (shares_at t h) ≡ entry (table i t) h
 at-shares_at one t h = refl
@@ -74,33 +71,33 @@ same_shares o l l' h s i q = at-shares_at i l.tables h ∙ ap (λ (t : List ℕ)
 -- ---- one command
 
 module _ (n : ℕ) (o : Observer) (c : Command) (cs : List Command) (p : Place) (z : Sizes) (k : List ℕ) where
-  judged_as : (v : Verdict) → verdict n c p z k ≡ v → (l : Lent) → Held n p z k l → judge n c z (start n p l) ≡ v
+  judged_as : (v : Verdict) → verdict n c p z k ≡ v → (l : Lent) → Held n p z k l → judge n c z (starting_registers n p l) ≡ v
   judged_as v e l h =
-      subst₂ (λ (y : Sizes) (j : List ℕ). judge n c y (start n p l) ≡ verdict n c p y j) h.sized h.kinds (judge-same n c p l) ∙ e
+      subst₂ (λ (y : Sizes) (j : List ℕ). judge n c y (starting_registers n p l) ≡ verdict n c p y j) h.sized h.kinds (judge-same n c p l) ∙ e
 
   module _ (x : Code) (e : verdict n c p z k ≡ Accepted x) where
     passed : (l : Lent) → Held n p z k l → Passed n x c p (sizes l) l.kinds
     passed l h = subst₂ (λ (y : Sizes) (j : List ℕ). Passed n x c p y j) (sym h.sized) (sym h.kinds) (all_passed n x c p z k e)
 
-    good : (l : Lent) → Held n p z k l → GivenAreWords n x (takes n c p l x)
+    good : (l : Lent) → Held n p z k l → ArgumentsAreWords n x (takes n c p l x)
     good l h = given_are_words n c p l x h.words (passed l h)
 
     -- what the commands from this one on lead to
     leads-on : (l : Lent) → Held n p z k l → (b : Tapes) → Contents (modulus n) (protocol n x c.b).draws b
-        → leads n (c ∷ cs) z l.inputs (start n p l)
-        ≡ shown n (Accepted x) c (start n p l) ++ leads n cs z l.inputs (start n (moved p (row n x)) (leaves n c p l x b))
+        → opened_registers n (c ∷ cs) z l.inputs (starting_registers n p l)
+        ≡ opened_register n (Accepted x) c (starting_registers n p l) ++ opened_registers n cs z l.inputs (starting_registers n (with_row p (row n x)) (leaves n c p l x b))
     leads-on l h b hb =
-        leads_by n c cs z l.inputs (start n p l) (Accepted x) (judged_as (Accepted x) e l h)
-        ∙ ap (λ (m : Registers). shown n (Accepted x) c (start n p l) ++ leads n cs z l.inputs m) (sym (start_left n c p l x h.words (passed l h) b hb))
+        leads_by n c cs z l.inputs (starting_registers n p l) (Accepted x) (judged_as (Accepted x) e l h)
+        ∙ ap (λ (m : Registers). opened_register n (Accepted x) c (starting_registers n p l) ++ opened_registers n cs z l.inputs m) (sym (start_left n c p l x h.words (passed l h) b hb))
 
     module _ (l l' : Lent) (h : Held n p z k l) (h' : Held n p z k l') (s : Alike n o (c ∷ cs) p z l l') (b b' : Tapes)
         (hb : Contents (modulus n) (protocol n x c.b).draws b) (hb' : Contents (modulus n) (protocol n x c.b).draws b') where
       parts : Sees o controller
-          → (opens (row n x) ≡ true → (named (start n p l).held c.a).word ≡ (named (start n p l').held c.a).word)
-          × (leads n cs z l.inputs (start n (moved p (row n x)) (leaves n c p l x b)) ≡ leads n cs z l'.inputs (start n (moved p (row n x)) (leaves n c p l' x b')))
-      parts q = shown_parts (opens (row n x)) _ _ _ _ (sym (leads-on l h b hb) ∙ s.leading q ∙ leads-on l' h' b' hb')
+          → (opens_value (row n x) ≡ true → (register_at (starting_registers n p l).held c.a).word ≡ (register_at (starting_registers n p l').held c.a).word)
+          × (opened_registers n cs z l.inputs (starting_registers n (with_row p (row n x)) (leaves n c p l x b)) ≡ opened_registers n cs z l'.inputs (starting_registers n (with_row p (row n x)) (leaves n c p l' x b')))
+      parts q = shown_parts (opens_value (row n x)) _ _ _ _ (sym (leads-on l h b hb) ∙ s.leading q ∙ leads-on l' h' b' hb')
 
-      same-given : SameGiven n o x (takes n c p l x) (takes n c p l' x)
+      same-given : SameArguments n o x (takes n c p l x) (takes n c p l' x)
       same-given = record {
         u = same_shares o l l' c.a s.seen;
         v = same_shares o l l' c.b s.seen;
@@ -108,29 +105,29 @@ module _ (n : ℕ) (o : Observer) (c : Command) (cs : List Command) (p : Place) 
       }
         where
           same_opened : (y : Code) → y ≡ Open → Passed n y c p (sizes l) l.kinds → Passed n y c p (sizes l') l'.kinds
-              → (opens (row n y) ≡ true → (named (start n p l).held c.a).word ≡ (named (start n p l').held c.a).word)
+              → (opens_value (row n y) ≡ true → (register_at (starting_registers n p l).held c.a).word ≡ (register_at (starting_registers n p l').held c.a).word)
               → sum_of (modulus n) (shares_at l.tables c.a) ≡ sum_of (modulus n) (shares_at l'.tables c.a)
           same_opened y f a a' w =
-              open_names n c p l (rw f at a) ∙ w (ap (λ (y : Code). opens (row n y)) f) ∙ sym (open_names n c p l' (rw f at a'))
+              open_names n c p l (rw f at a) ∙ w (ap (λ (y : Code). opens_value (row n y)) f) ∙ sym (open_names n c p l' (rw f at a'))
 
       same_left : SameShares o (makes n c p l x b) (makes n c p l' x b')
           → ((r : Receiver) → Sees o r → list r (sends n c p l x b) ≡ list r (sends n c p l' x b'))
-          → Alike n o cs (moved p (row n x)) z (leaves n c p l x b) (leaves n c p l' x b')
+          → Alike n o cs (with_row p (row n x)) z (leaves n c p l x b) (leaves n c p l' x b')
       same_left made sent = record {
         seen = record {
           tables = λ i q. table-left n c p l x b i
-              ∙ ap₂ (λ (t : List ℕ) (w : ℕ). put (row n x).values t p.handles w) (s.seen.tables i q) (made i q)
+              ∙ ap₂ (λ (t : List ℕ) (w : ℕ). with_entry (row n x).values t p.handles w) (s.seen.tables i q) (made i q)
               ∙ sym (table-left n c p l' x b' i);
           lists = λ r q. list-with_words r l.received p (sends n c p l x b)
-              ∙ ap₂ (λ (t w : List ℕ). sets t (due r p.received) w) (s.seen.lists r q) (sent r q)
+              ∙ ap₂ (λ (t w : List ℕ). sets t (count_for r p.received) w) (s.seen.lists r q) (sent r q)
               ∙ sym (list-with_words r l'.received p (sends n c p l' x b'));
         };
         leading = λ q. (parts q).1;
       }
 
-    accepted-blind : Blind (modulus n) o (step_protocol n (Accepted x) c p) (Held n p z k) (Alike n o (c ∷ cs) p z) (Alike n o cs (moved p (row n x)) z)
+    accepted-blind : Blind (modulus n) o (step_protocol n (Accepted x) c p) (Held n p z k) (Alike n o (c ∷ cs) p z) (Alike n o cs (with_row p (row n x)) z)
     accepted-blind =
-        let B = steps_blind n o x c.b in
+        let B = (lawful x).blind n o c.b in
         record {
           mask = λ l. B.mask (takes n c p l x);
           unmask = λ l. B.unmask (takes n c p l x);
@@ -157,8 +154,8 @@ module _ (n : ℕ) (o : Observer) (c : Command) (cs : List Command) (p : Place) 
     same = λ l l' h h' s b b' hb hb' f. (record { seen = s.seen; leading = λ q. sym (goes_on l h) ∙ s.leading q ∙ goes_on l' h' }, λ i q. refl);
   }
     where
-      goes_on : (l : Lent) → Held n p z k l → leads n (c ∷ cs) z l.inputs (start n p l) ≡ leads n cs z l.inputs (start n p l)
-      goes_on l h = leads_by n c cs z l.inputs (start n p l) (Refused r) (judged_as (Refused r) e l h)
+      goes_on : (l : Lent) → Held n p z k l → opened_registers n (c ∷ cs) z l.inputs (starting_registers n p l) ≡ opened_registers n cs z l.inputs (starting_registers n p l)
+      goes_on l h = leads_by n c cs z l.inputs (starting_registers n p l) (Refused r) (judged_as (Refused r) e l h)
 
   step-blind : (v : Verdict) → verdict n c p z k ≡ v
       → Blind (modulus n) o (step_protocol n v c p) (Held n p z k) (Alike n o (c ∷ cs) p z) (Alike n o cs (place_after n v p) z)
@@ -170,7 +167,7 @@ module _ (n : ℕ) (o : Observer) (c : Command) (cs : List Command) (p : Place) 
   step-held (Accepted x) e l h b hb = record {
     words = words_left n c p l x h.words (passed x e l h) b hb;
     sized = sizes-left n c p l x b ∙ h.sized;
-    kinds = ap (λ (j : List ℕ). put (row n x).values j p.handles (kind_number (row n x).kind)) h.kinds;
+    kinds = ap (λ (j : List ℕ). with_entry (row n x).values j p.handles (kind_number (row n x).kind)) h.kinds;
   }
   step-held (Refused r) e l h b hb = h
 

@@ -14,15 +14,15 @@ use Rattle.protocols.proofs.Laws.Blind.Compose.{then_draws, then_result}
 use Rattle.machine.specs.declared.code.Command.{Command}
 use Rattle.machine.specs.declared.lent.Sizes.{Sizes}
 use Rattle.machine.specs.Table.{row}
-use Rattle.machine.specs.Lent.{Lent, lent, sizes}
+use Rattle.machine.specs.Lent.{Lent, lent_lists, sizes}
 use Rattle.machine.specs.Verdict.{Verdict, Accepted, Refused, verdict}
 use Rattle.machine.specs.Steps.{protocol}
-use Rattle.machine.specs.Command.{accepted, decided, command}
-use Rattle.machine.specs.Run.{Ran, run, Reply, reply}
+use Rattle.machine.specs.Command.{accepted_outcome, verdict_outcome, command}
+use Rattle.machine.specs.Run.{RunResult, run, Reply, reply}
 use Rattle.machine.proofs.Laws.Accepted.{all_passed, has_room}
-use Rattle.machine.proofs.Laws.Steps.{steps_counted}
 use Rattle.machine.proofs.Laws.Agree.{leaves, sends}
 use Rattle.machine.proofs.Laws.Blind.Public.{place_after, kinds_after, place_at_end, kinds_at_end, replies_to, command_public}
+use Rattle.machine.proofs.Laws.Lawful.{lawful}
 
 -- ---- the protocol
 
@@ -53,7 +53,7 @@ step_left n c p z k (Accepted x) e =
     let d = z.tapes in
     let q = p.drawn in
     let j = (row n x).drawn in
-    ap (λ (y : Drawn). plus y (left d (plus q j))) (steps_counted n x c.b).drawn
+    ap (λ (y : Drawn). plus y (left d (plus q j))) ((lawful x).counted n c.b).drawn
     ∙ (λ i. counts (left_after d.provider q.provider j.provider (room Provider) i) (left_after d.one q.one j.one (room One) i)
     (left_after d.two q.two j.two (room Two) i) (left_after d.three q.three j.three (room Three) i))
 step_left n c p z k (Refused r) e =
@@ -72,7 +72,7 @@ run-draws n (c ∷ cs) p z k =
 -- ---- a run does what it does
 
 abbrev pub with_tapes : Tapes → Lent → Lent
-with_tapes t l = lent l.tables l.kinds l.inputs t l.received
+with_tapes t l = lent_lists l.tables l.kinds l.inputs t l.received
 
 -- one command, on the tapes t
 module _ (n : ℕ) (c : Command) (p : Place) (l : Lent) (t : Tapes) where
@@ -83,25 +83,25 @@ module _ (n : ℕ) (c : Command) (p : Place) (l : Lent) (t : Tapes) where
   abbrev held : Verdict → Lent
   held v = (step_protocol n v c p).result l (next v)
 
-  leaves_by : (v : Verdict) → (decided n v c p (with_tapes t l)).lent ≡ with_tapes t (held v)
-  unfolding accepted
+  leaves_by : (v : Verdict) → (verdict_outcome n v c p (with_tapes t l)).lent ≡ with_tapes t (held v)
+  unfolding accepted_outcome
   leaves_by (Accepted x) = ap (λ (b : Tapes). with_tapes t (leaves n c p l x b)) (block-cut (protocol n x c.b).draws p t)
   leaves_by (Refused r) = refl
 
   command-leaves : (z : Sizes) (k : List ℕ) → sizes (with_tapes t l) ≡ z → l.kinds ≡ k
       → (command n c p (with_tapes t l)).lent ≡ with_tapes t (held (verdict n c p z k))
   unfolding command
-  command-leaves z k e f = (λ i. (decided n (verdict n c p (e i) (f i)) c p (with_tapes t l)).lent) ∙ leaves_by (verdict n c p z k)
+  command-leaves z k e f = (λ i. (verdict_outcome n (verdict n c p (e i) (f i)) c p (with_tapes t l)).lent) ∙ leaves_by (verdict n c p z k)
 
   drawn-after : (v : Verdict) → plus p.drawn (step_protocol n v c p).draws ≡ (place_after n v p).drawn
-  drawn-after (Accepted x) = ap (plus p.drawn) (steps_counted n x c.b).drawn
+  drawn-after (Accepted x) = ap (plus p.drawn) ((lawful x).counted n c.b).drawn
   drawn-after (Refused r) =
       λ i. counts (add-zero p.drawn.provider i) (add-zero p.drawn.one i) (add-zero p.drawn.two i) (add-zero p.drawn.three i)
 
   rest-after : (v : Verdict) → rest (step_protocol n v c p).draws (rest p.drawn t) ≡ rest (place_after n v p).drawn t
   rest-after v = rest-rest (step_protocol n v c p).draws p.drawn t ∙ ap (λ (d : Drawn). rest d t) (drawn-after v)
 
-pub record Follows (n : ℕ) (cs : List Command) (p : Place) (z : Sizes) (k : List ℕ) (l : Lent) (t : Tapes) (r : Ran) : Type 0 where
+pub record Follows (n : ℕ) (cs : List Command) (p : Place) (z : Sizes) (k : List ℕ) (l : Lent) (t : Tapes) (r : RunResult) : Type 0 where
   pub leaves-lent : r.lent ≡ with_tapes t ((run_protocol n cs p z k).result l (rest p.drawn t))
   pub ends : r.place ≡ place_at_end n cs p z k
   pub kinds : r.lent.kinds ≡ kinds_at_end n cs p z k
@@ -122,12 +122,12 @@ run_follows n (c ∷ cs) p z k l t e f =
     let goes : run n cs o.answer.place o.lent ≡ run n cs q (with_tapes t l₁) = ap₂ (run n cs) u.same_place left in
     let rest-follows = run_follows n cs q z j l₁ t (ap sizes (sym left) ∙ u.same-sizes) (ap (λ (m : Lent). m.kinds) (sym left) ∙ u.same-kinds) in
     record {
-      leaves-lent = ap (λ (r : Ran). r.lent) goes
+      leaves-lent = ap (λ (r : RunResult). r.lent) goes
           ∙ rest-follows.leaves-lent
           ∙ ap (λ (b : Tapes). with_tapes t ((run_protocol n cs q z j).result l₁ b)) (sym (rest-after n c p l t v))
           ∙ ap (with_tapes t) (sym (then_result (step_protocol n v c p) (run_protocol n cs q z j) l (rest p.drawn t)));
-      ends = ap (λ (r : Ran). r.place) goes ∙ rest-follows.ends;
-      kinds = ap (λ (r : Ran). r.lent.kinds) goes ∙ rest-follows.kinds;
+      ends = ap (λ (r : RunResult). r.place) goes ∙ rest-follows.ends;
+      kinds = ap (λ (r : RunResult). r.lent.kinds) goes ∙ rest-follows.kinds;
       answers = ap₂ (λ (a : Reply) (r : List Reply). a ∷ r) (λ i. record { number = u.same_number i; place = u.same_place i })
-          (ap (λ (r : Ran). map reply r.answers) goes ∙ rest-follows.answers);
+          (ap (λ (r : RunResult). map reply r.answers) goes ∙ rest-follows.answers);
     }

@@ -8,4 +8,4 @@ use Rattle.machine.proofs.judge.are_kinds.Goals as goal
 pub loop-kind-preserved : goal.loop-kind-preserved
 loop-kind-preserved c =
     let word = c.less_one-seen in
-    rw (small_or c.loop-kind.seen word.result, c.loop-kind.invariant, word.ensures.1) (sym (list_all_more is_kind _ _ 0 c.loop-kind-test.true))
+    rw (small_or c.loop-kind.seen word.result, c.loop-kind.invariant, word.ensures.small) (sym (list_all_more is_kind _ _ 0 c.loop-kind-test.true))

@@ -3,18 +3,18 @@ use Rattle.std.proofs.Common.{ℕ, List, [], ◌∷◌, refl}
 use Rattle.std.specs.Prelude.{bit_xor, bit_and, ◌-◌}
 use Rattle.protocols.specs.declared.place.Party.{Party}
 use Rattle.protocols.specs.declared.place.Party.TheVariants.{Provider, One, Two, Three}
-use Rattle.protocols.specs.declared.bits.Dealt.{Dealt}
-use Rattle.protocols.specs.declared.bits.Held.{Held}
-use Rattle.protocols.specs.Word.{width, modulus, add, sub, up}
+use Rattle.protocols.specs.declared.bits.Dealing.{Dealing}
+use Rattle.protocols.specs.declared.bits.CarryState.{CarryState}
+use Rattle.protocols.specs.Word.{width, modulus, add, sub, shift_up}
 use Rattle.protocols.specs.Shares.{Miner, one, two, three}
 use Rattle.protocols.specs.Place.{lists, silence}
 use Rattle.protocols.specs.Bits.{deal, exchange, round_s, round_p, rounds, bits}
 use Rattle.protocols.specs.Bits as spec
 use Rattle.protocols.specs.Below.{below}
-use Rattle.protocols.specs.Counts.{received}
+use Rattle.protocols.specs.Counts.{received_counts}
 use Rattle.protocols.specs.Parties.{Process, connect, PlayedApart}
 use Rattle.protocols.specs.Own.{share, pair}
-use Rattle.protocols.proofs.Laws.Apart.Compose.{alike, apart_then, apart_repeated, apart-locally}
+use Rattle.protocols.proofs.Laws.Apart.Compose.{alike, apart_then, apart-with_rounds, apart-locally}
 use Rattle.protocols.proofs.Laws.Apart.Programs.{round, nth, miners, by_miner}
 use Rattle.protocols.proofs.Laws.Apart.Programs.{for_next, for_two_three, from_previous, previous}
 use Rattle.protocols.proofs.Laws.Apart.Programs.{miners_send, each_next, one_deals}
@@ -24,29 +24,29 @@ use Rattle.protocols.proofs.Laws.Apart.Bit.{bit_apart}
 -- ---- the dealing
 
 -- after it miners 2 and 3 have a masked share and R₂, R₃
-record OwnDealt : Type 0 where
+record OwnDealing : Type 0 where
   v : ℕ
   R : ℕ
 
-abbrev dealt : Party → Dealt → OwnDealt
-dealt Provider d = record { v = 0; R = 0 }
-dealt One d = record { v = 0; R = 0 }
-dealt Two d = record { v = d.v2; R = d.bar2 }
-dealt Three d = record { v = d.v3; R = d.bar3 }
+abbrev own_dealing : Party → Dealing → OwnDealing
+own_dealing Provider d = record { v = 0; R = 0 }
+own_dealing One d = record { v = 0; R = 0 }
+own_dealing Two d = record { v = d.v2; R = d.bar2 }
+own_dealing Three d = record { v = d.v3; R = d.bar3 }
 
-abbrev deal_program : ℕ → Miner → ℕ → List ℕ → Process 1 OwnDealt
+abbrev deal_program : ℕ → Miner → ℕ → List ℕ → Process 1 OwnDealing
 deal_program m one u l =
     let r = nth 0 l in
     let r₂ = nth 1 l in
     let R₂ = nth 2 l in
-    round OwnDealt 0 (for_two_three (r₂ ∷ R₂ ∷ []) (sub m (sub m u r) r₂ ∷ bit_xor r R₂ ∷ [])) λ mail.
+    round OwnDealing 0 (for_two_three (r₂ ∷ R₂ ∷ []) (sub m (sub m u r) r₂ ∷ bit_xor r R₂ ∷ [])) λ mail.
     record { v = 0; R = 0 }
 deal_program m two u l =
-    round OwnDealt 0 silence (λ mail. record { v = add m u (nth 0 (mail One)); R = nth 1 (mail One) })
+    round OwnDealing 0 silence (λ mail. record { v = add m u (nth 0 (mail One)); R = nth 1 (mail One) })
 deal_program m three u l =
-    round OwnDealt 0 silence (λ mail. record { v = add m u (nth 0 (mail One)); R = nth 1 (mail One) })
+    round OwnDealing 0 silence (λ mail. record { v = add m u (nth 0 (mail One)); R = nth 1 (mail One) })
 
-deal_apart : (n : ℕ) → PlayedApart (deal n) share dealt
+deal_apart : (n : ℕ) → PlayedApart (deal n) share own_dealing
 unfolding connect deal
 deal_apart n = record {
   rounds = 1;
@@ -58,7 +58,7 @@ deal_apart n = record {
 -- ---- the exchange
 
 -- before a round a miner has its shares and masks, and the previous miner's masks, which it has been sent
-record OwnHeld : Type 0 where
+record OwnCarryState : Type 0 where
   p : ℕ
   s : ℕ
   q : ℕ
@@ -67,8 +67,8 @@ record OwnHeld : Type 0 where
   t' : ℕ
   base : ℕ
 
-abbrev held : Party → Held → OwnHeld
-held i h = record {
+abbrev own_state : Party → CarryState → OwnCarryState
+own_state i h = record {
   p = share i h.p;
   s = share i h.s;
   q = share i h.q;
@@ -79,41 +79,41 @@ held i h = record {
 }
 
 -- a miner begins with p and s, its masks, and the previous miner's as they come in
-abbrev begun : ℕ → ℕ → List ℕ → List ℕ → OwnHeld
-begun p s l masks =
+abbrev own_first_state : ℕ → ℕ → List ℕ → List ℕ → OwnCarryState
+own_first_state p s l masks =
     record { p = p; s = s; q = nth 0 l; t = nth 1 l; q' = nth 0 masks; t' = nth 1 masks; base = p }
 
-abbrev exchange_program : ℕ → Miner → OwnDealt → List ℕ → Process 1 OwnHeld
+abbrev exchange_program : ℕ → Miner → OwnDealing → List ℕ → Process 1 OwnCarryState
 exchange_program m one d l =
-    round OwnHeld 0 (for_two_three (nth 0 l ∷ nth 1 l ∷ []) []) λ mail.
-    begun 0 0 l (mail Three)
+    round OwnCarryState 0 (for_two_three (nth 0 l ∷ nth 1 l ∷ []) []) λ mail.
+    own_first_state 0 0 l (mail Three)
 exchange_program m two d l =
-    round OwnHeld 0 (for_two_three [] (nth 0 l ∷ nth 1 l ∷ d.v ∷ [])) λ mail.
+    round OwnCarryState 0 (for_two_three [] (nth 0 l ∷ nth 1 l ∷ d.v ∷ [])) λ mail.
     let v = add m d.v (nth 0 (mail Three)) in
-    begun (bit_xor v d.R) (bit_and v d.R) l (mail One)
+    own_first_state (bit_xor v d.R) (bit_and v d.R) l (mail One)
 exchange_program m three d l =
-    round OwnHeld 0 (lists (nth 0 l ∷ nth 1 l ∷ []) (d.v ∷ []) [] []) λ mail.
+    round OwnCarryState 0 (lists (nth 0 l ∷ nth 1 l ∷ []) (d.v ∷ []) [] []) λ mail.
     let v = add m (nth 2 (mail Two)) d.v in
-    begun d.R (bit_and v d.R) l (mail Two)
+    own_first_state d.R (bit_and v d.R) l (mail Two)
 
-exchange_apart : (n : ℕ) → PlayedApart (exchange n) dealt held
+exchange_apart : (n : ℕ) → PlayedApart (exchange n) own_dealing own_state
 unfolding connect exchange
 exchange_apart n = record {
   rounds = 1;
-  timetable = miners_send (received 0 2 0 0) (received 0 0 3 0) (received 2 1 0 0) ∷ [];
-  program = miners 1 (begun 0 0 [] []) (exchange_program (modulus n));
+  timetable = miners_send (received_counts 0 2 0 0) (received_counts 0 0 3 0) (received_counts 2 1 0 0) ∷ [];
+  program = miners 1 (own_first_state 0 0 [] []) (exchange_program (modulus n));
   plays = λ d b. alike refl refl refl refl refl refl;
 }
 
 -- ---- the rounds
 
-abbrev round_program : ℕ → ℕ → Miner → OwnHeld → List ℕ → Process 1 OwnHeld
+abbrev round_program : ℕ → ℕ → Miner → OwnCarryState → List ℕ → Process 1 OwnCarryState
 round_program w k i h l =
     let p = bit_xor (bit_xor h.p h.q) h.q' in
     let s = bit_xor (bit_xor h.s h.t) h.t' in
     let q = nth 0 l in
     let t = nth 1 l in
-    round OwnHeld 0 (for_next i (p ∷ s ∷ q ∷ t ∷ [])) λ mail.
+    round OwnCarryState 0 (for_next i (p ∷ s ∷ q ∷ t ∷ [])) λ mail.
     let sent = λ (j : ℕ). nth j (from_previous i mail) in
     record {
       p = round_p w k p (sent 0);
@@ -125,18 +125,18 @@ round_program w k i h l =
       base = h.base;
     }
 
-round_apart : (n k : ℕ) → PlayedApart (spec.round n k) held held
+round_apart : (n k : ℕ) → PlayedApart (spec.round n k) own_state own_state
 unfolding connect spec.round
 round_apart n k = record {
   rounds = 1;
   timetable = each_next 4 ∷ [];
-  program = miners 1 (begun 0 0 [] []) (round_program (width n) k);
+  program = miners 1 (own_first_state 0 0 [] []) (round_program (width n) k);
   plays = λ h b. alike refl refl refl refl refl refl;
 }
 
-rounds_apart : (n k : ℕ) → PlayedApart (rounds n k) share held
+rounds_apart : (n k : ℕ) → PlayedApart (rounds n k) share own_state
 unfolding rounds
-rounds_apart n = apart_repeated (apart_then (deal_apart n) (exchange_apart n)) (round_apart n)
+rounds_apart n = apart-with_rounds (apart_then (deal_apart n) (exchange_apart n)) (round_apart n)
 
 -- ---- and the end
 
@@ -144,7 +144,7 @@ pub bits_apart : (n : ℕ) → PlayedApart (bits n) share share
 unfolding bits
 bits_apart n =
     apart_then (rounds_apart n n)
-    (apart-locally (by_miner (λ i h. bit_xor (up (width n) h.s) h.base))
+    (apart-locally (by_miner (λ i h. bit_xor (shift_up (width n) h.s) h.base))
     (elim [ Provider ↦ λ h. refl | One ↦ λ h. refl | Two ↦ λ h. refl | Three ↦ λ h. refl ]))
 
 -- ---- Below

@@ -5,8 +5,8 @@ use Rattle.protocols.specs.declared.place.Party.{Party}
 use Rattle.protocols.specs.declared.place.Party.TheVariants.{Provider, One, Two, Three}
 use Rattle.protocols.specs.declared.place.Drawn.{Drawn}
 use Rattle.protocols.specs.Place.{Tapes, tape, Lists, silence, ◌followed_by◌, count, cut, rest}
-use Rattle.protocols.specs.Protocol.{Protocol, locally, on, ◌then◌, repeated}
-use Rattle.protocols.specs.Parties.{Process, for_party, in_turn, sent, Connected, connected, connect, PlayedApart}
+use Rattle.protocols.specs.Protocol.{Protocol, locally, from_part, ◌then◌, with_rounds}
+use Rattle.protocols.specs.Parties.{Process, for_party, in_turn, sent_lengths, Connection, connection, connect, PlayedApart}
 
 -- r rounds and k more
 abbrev more : ℕ → ℕ → ℕ
@@ -16,7 +16,7 @@ more (suc r) k = suc (more r k)
 -- one process, and then another from what the first one has in the end
 abbrev bind : (A B : Type 0) (r k : ℕ) → Process r A → (A → Process k B) → Process (more r k) B
 bind A B zero k p q = q p
-bind A B (suc r) k p q = record { sends = p.sends; goes_on = λ m. bind A B r k (p.goes_on m) q }
+bind A B (suc r) k p q = record { sends = p.sends; next = λ m. bind A B r k (p.next m) q }
 
 -- functions of a party that agree at each
 pub by_party : {B : Type 0} {f g : Party → B}
@@ -30,9 +30,9 @@ by_party {f = f} {g = g} a b c d = λ i p. same p i
     same Three = d
 
 -- the same ends, party by party, the same lists and the same timetable
-pub alike : {B : Type 0} {c d : Connected B} → c.ends Provider ≡ d.ends Provider → c.ends One ≡ d.ends One
+pub alike : {B : Type 0} {c d : Connection B} → c.ends Provider ≡ d.ends Provider → c.ends One ≡ d.ends One
     → c.ends Two ≡ d.ends Two → c.ends Three ≡ d.ends Three → c.received ≡ d.received → c.sent ≡ d.sent → c ≡ d
-alike {c = c} {d = d} p q r s e t = λ k. connected (by_party {f = c.ends} {g = d.ends} p q r s k) (e k) (t k)
+alike {c = c} {d = d} p q r s e t = λ k. connection (by_party {f = c.ends} {g = d.ends} p q r s k) (e k) (t k)
 
 followed_by_assoc : (a b c : Lists) → (a followed_by b) followed_by c ≡ a followed_by (b followed_by c)
 followed_by_assoc a b c = simp append_assoc
@@ -43,21 +43,21 @@ followed_by_silence a = simp append-nil
 -- ---- one part after the other
 
 -- two connected parts
-abbrev joined : {A B : Type 0} → Connected A → ((Party → A) → Connected B) → Connected B
-joined c d = connected (d c.ends).ends (c.received followed_by (d c.ends).received) (c.sent ++ (d c.ends).sent)
+abbrev sequence : {A B : Type 0} → Connection A → ((Party → A) → Connection B) → Connection B
+sequence c d = connection (d c.ends).ends (c.received followed_by (d c.ends).received) (c.sent ++ (d c.ends).sent)
 
 connect-bind : {A B : Type 0} (r k : ℕ) (p : Party → Process r A) (q : Party → A → Process k B)
-    → connect (more r k) (λ i. bind _ _ r k (p i) (q i)) ≡ joined (connect r p) (λ e. connect k (λ i. q i (e i)))
+    → connect (more r k) (λ i. bind _ _ r k (p i) (q i)) ≡ sequence (connect r p) (λ e. connect k (λ i. q i (e i)))
 unfolding connect
 connect-bind zero k p q = refl
 connect-bind (suc r) k p q =
     let o = in_turn (λ i. (p i).sends) in
-    let t = sent (λ i. (p i).sends) in
-    let p' = λ (i : Party). (p i).goes_on (λ j. for_party i (p j).sends) in
+    let t = sent_lengths (λ i. (p i).sends) in
+    let p' = λ (i : Party). (p i).next (λ j. for_party i (p j).sends) in
     let c = connect r p' in
     let d = connect k (λ i. q i (c.ends i)) in
-    ap (λ x. connected x.ends (o followed_by x.received) (t ∷ x.sent)) (connect-bind r k p' q)
-    ∙ ap (λ l. connected d.ends l (t ∷ (c.sent ++ d.sent))) (sym (followed_by_assoc o c.received d.received))
+    ap (λ x. connection x.ends (o followed_by x.received) (t ∷ x.sent)) (connect-bind r k p' q)
+    ∙ ap (λ l. connection d.ends l (t ∷ (c.sent ++ d.sent))) (sym (followed_by_assoc o c.received d.received))
 
 -- a party's words of the first part of a block, and of the rest
 tape-cut : (n : Drawn) (b : Tapes) (i : Party) → tape i (cut n b) ≡ take (count i n) (tape i b)
@@ -89,19 +89,19 @@ apart_then {B = B} {C = C} {f = f} {g = g} {before = before} {mid = mid} F G = r
       let first = ap (connect F.rounds) (λ k i. F.program i (before i s) (sym (tape-cut f.draws b i) k)) in
       let second = ap (connect G.rounds) (λ k i. G.program i (mid i t) (sym (tape-rest f.draws b i) k)) in
       connect-bind F.rounds G.rounds p q
-      ∙ ap (λ (c : Connected B). joined c (λ e. connect G.rounds (λ i. q i (e i)))) (first ∙ F.plays s (cut f.draws b))
-      ∙ ap (λ (c : Connected C).
-      connected c.ends (f.received s (cut f.draws b) followed_by c.received) (F.timetable ++ c.sent))
+      ∙ ap (λ (c : Connection B). sequence c (λ e. connect G.rounds (λ i. q i (e i)))) (first ∙ F.plays s (cut f.draws b))
+      ∙ ap (λ (c : Connection C).
+      connection c.ends (f.received s (cut f.draws b) followed_by c.received) (F.timetable ++ c.sent))
       (second ∙ G.plays t (rest f.draws b));
 }
 
 -- f, and then rounds of g
-pub apart_repeated : {S T A B : Type 0} {f : Protocol S T} {g : ℕ → Protocol T T}
+pub apart-with_rounds : {S T A B : Type 0} {f : Protocol S T} {g : ℕ → Protocol T T}
     {before : Party → S → A} {after : Party → T → B}
     → PlayedApart f before after → ((k : ℕ) → PlayedApart (g k) after after)
-    → (k : ℕ) → PlayedApart (repeated f g k) before after
-apart_repeated F G zero = F
-apart_repeated F G (suc k) = apart_then (apart_repeated F G k) (G k)
+    → (k : ℕ) → PlayedApart (with_rounds f g k) before after
+apart-with_rounds F G zero = F
+apart-with_rounds F G (suc k) = apart_then (apart-with_rounds F G k) (G k)
 
 pub then_received : {S T Z : Type 0} (f : Protocol S T) (g : Protocol T Z) (s : S) (b : Tapes)
     → (f then g).received s b
@@ -119,7 +119,7 @@ apart-locally h e = record {
   rounds = 0;
   timetable = [];
   program = λ i a l. h i a;
-  plays = λ s b k. connected (λ i. e i s k) silence [];
+  plays = λ s b k. connection (λ i. e i s k) silence [];
 }
 
 -- words that are drawn and put to no use
@@ -149,15 +149,15 @@ apart-within {C = C} {f = f} {g = g} {before = before} part pick keep picked kep
       let q = λ (i : Party). keep i (before i s) in
       let words = followed_by_silence (f.received (part s) b) ∙ sym (heard s b) in
       connect-bind F.rounds 0 p q
-      ∙ ap (λ (c : Connected C). joined c (λ e. connect 0 (λ i. q i (e i))))
+      ∙ ap (λ (c : Connection C). sequence c (λ e. connect 0 (λ i. q i (e i))))
       (ap (connect F.rounds) (λ k i. F.program i (picked i s k) (tape i b)) ∙ F.plays (part s) b)
-      ∙ (λ k. connected (λ i. kept i s b k) (words k) (F.timetable ++ []));
+      ∙ (λ k. connection (λ i. kept i s b k) (words k) (F.timetable ++ []));
 }
 
 -- a protocol on a part of what is there, which each party finds in what it has
-pub apart-on : {S T Z A B C : Type 0} {part : S → T} {f : Protocol T Z}
+pub apart-from_part : {S T Z A B C : Type 0} {part : S → T} {f : Protocol T Z}
     {before : Party → S → A} {mid : Party → T → B} {after : Party → Z → C} (pick : A → B)
     → ((i : Party) (s : S) → pick (before i s) ≡ mid i (part s))
-    → PlayedApart f mid after → PlayedApart (on part f) before after
-apart-on {part = part} pick picked =
+    → PlayedApart f mid after → PlayedApart (from_part part f) before after
+apart-from_part {part = part} pick picked =
     apart-within part (λ i. pick) (λ i a c. c) picked (λ i s b. refl) (λ s b. refl)

@@ -3,14 +3,14 @@ use Rattle.std.proofs.Common.{ℕ, List, [], ◌∷◌, refl}
 use Rattle.std.specs.Prelude.{bit_xor, ◌-◌}
 use Rattle.protocols.specs.declared.place.Party.{Party}
 use Rattle.protocols.specs.declared.place.Party.TheVariants.{One}
-use Rattle.protocols.specs.declared.equal.Folding.{Folding}
+use Rattle.protocols.specs.declared.equal.FoldState.{FoldState}
 use Rattle.protocols.specs.Word.{width, modulus, add, sub}
 use Rattle.protocols.specs.Shares.{Miner, one, two, three}
 use Rattle.protocols.specs.Place.{silence}
-use Rattle.protocols.specs.Equal.{compare, begin, fold_share, fold, folds, equal}
+use Rattle.protocols.specs.Equal.{compare, first_masks, fold_share, fold, folds, equal}
 use Rattle.protocols.specs.Parties.{Process, connect, PlayedApart}
 use Rattle.protocols.specs.Own.{share, Pair, pair}
-use Rattle.protocols.proofs.Laws.Apart.Compose.{alike, apart_then, apart_repeated, apart-locally}
+use Rattle.protocols.proofs.Laws.Apart.Compose.{alike, apart_then, apart-with_rounds, apart-locally}
 use Rattle.protocols.proofs.Laws.Apart.Programs.{round, nth, miners, for_next, for_two_three, from_previous, previous}
 use Rattle.protocols.proofs.Laws.Apart.Programs.{each_next, one_deals}
 use Rattle.protocols.proofs.Laws.Apart.Bit.{bit_apart}
@@ -36,40 +36,40 @@ compare_apart n = record {
 -- ---- the folds
 
 -- before a fold a miner has its share and its mask, and the previous miner's mask, which it has been sent
-record OwnFolding : Type 0 where
+record OwnFoldState : Type 0 where
   p : ℕ
   q : ℕ
   q' : ℕ
 
-abbrev folding : Party → Folding → OwnFolding
-folding i h = record { p = share i h.p; q = share i h.q; q' = previous i h.q }
+abbrev own_fold_state : Party → FoldState → OwnFoldState
+own_fold_state i h = record { p = share i h.p; q = share i h.q; q' = previous i h.q }
 
-abbrev nothing : OwnFolding
+abbrev nothing : OwnFoldState
 nothing = record { p = 0; q = 0; q' = 0 }
 
-abbrev begin_program : Miner → ℕ → List ℕ → Process 1 OwnFolding
-begin_program i p l =
+abbrev first_masks_program : Miner → ℕ → List ℕ → Process 1 OwnFoldState
+first_masks_program i p l =
     let q = nth 0 l in
-    round OwnFolding 0 (for_next i (q ∷ [])) λ mail.
+    round OwnFoldState 0 (for_next i (q ∷ [])) λ mail.
     record { p = p; q = q; q' = nth 0 (from_previous i mail) }
 
-begin_apart : PlayedApart begin share folding
-unfolding connect begin
-begin_apart = record {
+first_masks_apart : PlayedApart first_masks share own_fold_state
+unfolding connect first_masks
+first_masks_apart = record {
   rounds = 1;
   timetable = each_next 1 ∷ [];
-  program = miners 1 nothing begin_program;
+  program = miners 1 nothing first_masks_program;
   plays = λ p b. alike refl refl refl refl refl refl;
 }
 
-abbrev fold_program : ℕ → ℕ → Miner → OwnFolding → List ℕ → Process 1 OwnFolding
+abbrev fold_program : ℕ → ℕ → Miner → OwnFoldState → List ℕ → Process 1 OwnFoldState
 fold_program w k i h l =
     let p = bit_xor (bit_xor h.p h.q) h.q' in
     let q = nth 0 l in
-    round OwnFolding 0 (for_next i (p ∷ q ∷ [])) λ mail.
+    round OwnFoldState 0 (for_next i (p ∷ q ∷ [])) λ mail.
     record { p = fold_share w k p (nth 0 (from_previous i mail)); q = q; q' = nth 1 (from_previous i mail) }
 
-fold_apart : (n k : ℕ) → PlayedApart (fold n k) folding folding
+fold_apart : (n k : ℕ) → PlayedApart (fold n k) own_fold_state own_fold_state
 unfolding connect fold
 fold_apart n k = record {
   rounds = 1;
@@ -78,9 +78,9 @@ fold_apart n k = record {
   plays = λ h b. alike refl refl refl refl refl refl;
 }
 
-folds_apart : (n k : ℕ) → PlayedApart (folds n k) pair folding
+folds_apart : (n k : ℕ) → PlayedApart (folds n k) pair own_fold_state
 unfolding folds
-folds_apart n = apart_repeated (apart_then (compare_apart n) begin_apart) (fold_apart n)
+folds_apart n = apart-with_rounds (apart_then (compare_apart n) first_masks_apart) (fold_apart n)
 
 -- ---- and Bit on position 0
 

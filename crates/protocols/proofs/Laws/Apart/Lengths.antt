@@ -6,8 +6,8 @@ use Rattle.protocols.specs.declared.place.Party.TheVariants.{Provider, One, Two,
 use Rattle.protocols.specs.declared.place.Received.{Received}
 use Rattle.protocols.specs.Shares.{one, two, three}
 use Rattle.protocols.specs.Place.{Lists, silence, ◌followed_by◌, Receiver, miner, controller, list}
-use Rattle.protocols.specs.Counts.{due}
-use Rattle.protocols.specs.Parties.{Process, for_party, in_turn, Sent, sent, connect}
+use Rattle.protocols.specs.Counts.{count_for}
+use Rattle.protocols.specs.Parties.{Process, for_party, in_turn, SentCounts, sent_lengths, connect}
 use Rattle.protocols.proofs.Laws.Counts.{due-list_lengths}
 
 -- ---- a round
@@ -20,13 +20,13 @@ list-round (miner two) o l = simp append_assoc
 list-round (miner three) o l = simp append_assoc
 list-round controller o l = simp append_assoc
 
-abbrev pub sender : Party → Sent → Received
+abbrev pub sender : Party → SentCounts → Received
 sender Provider t = t.provider
 sender One t = t.one
 sender Two t = t.two
 sender Three t = t.three
 
-pub length-sent : (q : Receiver) (j : Party) (o : Party → Lists) → due q (sender j (sent o)) ≡ length (list q (o j))
+pub length-sent : (q : Receiver) (j : Party) (o : Party → Lists) → count_for q (sender j (sent_lengths o)) ≡ length (list q (o j))
 length-sent q Provider o = due-list_lengths q (o Provider)
 length-sent q One o = due-list_lengths q (o One)
 length-sent q Two o = due-list_lengths q (o Two)
@@ -35,10 +35,10 @@ length-sent q Three o = due-list_lengths q (o Three)
 -- ---- all rounds
 
 -- how many words a list receives, by the timetable
-unfoldable pub total : Receiver → List Sent → ℕ
+unfoldable pub total : Receiver → List SentCounts → ℕ
 total q [] = 0
 total q (t ∷ times) =
-    let n = λ (j : Party). due q (sender j t) in
+    let n = λ (j : Party). count_for q (sender j t) in
     n Provider + (n One + (n Two + (n Three + total q times)))
 
 nothing_received : (q : Receiver) → length (list q silence) ≡ 0
@@ -48,7 +48,7 @@ nothing_received (miner three) = refl
 nothing_received controller = refl
 
 length-round : (q : Receiver) (o : Party → Lists) (l : Lists) (k : ℕ) → length (list q l) ≡ k
-    → let n = λ (j : Party). due q (sender j (sent o)) in
+    → let n = λ (j : Party). count_for q (sender j (sent_lengths o)) in
     length (list q (in_turn o followed_by l)) ≡ n Provider + (n One + (n Two + (n Three + k)))
 length-round q o l k e =
     let first = λ (j : Party) (w : List ℕ) (m : ℕ) (f : length w ≡ m).
@@ -62,5 +62,5 @@ unfolding connect total
 length-received B zero p q = nothing_received q
 length-received B (suc r) p q =
     let o = λ (j : Party). (p j).sends in
-    let p' = λ (j : Party). (p j).goes_on (λ k. for_party j (o k)) in
+    let p' = λ (j : Party). (p j).next (λ k. for_party j (o k)) in
     length-round q o (connect r p').received _ (length-received B r p' q)

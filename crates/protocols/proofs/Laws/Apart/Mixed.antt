@@ -8,10 +8,10 @@ use Rattle.protocols.specs.declared.shares.Shares.{Shares}
 use Rattle.protocols.specs.Shares.{one, two, three, Operands}
 use Rattle.protocols.specs.Place.{Tapes, tape, Lists, lists, ◌followed_by◌, Receiver, miner, controller, list}
 use Rattle.protocols.specs.Protocol.{Protocol}
-use Rattle.protocols.specs.Counts.{due}
-use Rattle.protocols.specs.Parties.{Process, for_party, in_turn, Sent, sent, Connected, connected, connect, PlayedApart}
+use Rattle.protocols.specs.Counts.{count_for}
+use Rattle.protocols.specs.Parties.{Process, for_party, in_turn, SentCounts, sent_lengths, Connection, connection, connect, PlayedApart}
 use Rattle.protocols.specs.Own.{share, pair, input}
-use Rattle.protocols.specs.Apart.{mixed_shares, mixed_operands, mixed_tapes, MixedRuns}
+use Rattle.protocols.specs.Apart.{mixed_shares, mixed_operands, mixed_tapes, MixedProtocolRuns}
 use Rattle.protocols.proofs.Laws.Apart.Lengths.{list-round, sender, length-sent}
 
 -- ---- the words of a round, in each list
@@ -27,10 +27,10 @@ pub by_list : {a b : Lists} → ((q : Receiver) → list q a ≡ list q b) → a
 by_list e = λ k. lists (e (miner one) k) (e (miner two) k) (e (miner three) k) (e controller k)
 
 -- two rounds of the same lengths, in front of words: if all lists are the same, so are the words of each sender
-module _ (o o' : Party → Lists) (l l' : Lists) (times : sent o ≡ sent o')
+module _ (o o' : Party → Lists) (l l' : Lists) (times : sent_lengths o ≡ sent_lengths o')
     (same : in_turn o followed_by l ≡ in_turn o' followed_by l') where
   as_long : (q : Receiver) (j : Party) → length (list q (o j)) ≡ length (list q (o' j))
-  as_long q j = sym (length-sent q j o) ∙ ap (λ (t : Sent). due q (sender j t)) times ∙ length-sent q j o'
+  as_long q j = sym (length-sent q j o) ∙ ap (λ (t : SentCounts). count_for q (sender j t)) times ∙ length-sent q j o'
 
   words_alike : (q : Receiver) → ((j : Party) → list q (o j) ≡ list q (o' j)) × (list q l ≡ list q l')
   words_alike q =
@@ -49,11 +49,11 @@ module _ (o o' : Party → Lists) (l l' : Lists) (times : sent o ≡ sent o')
 
 -- ---- four processes mixed of two fours
 
-abbrev first_round : Sent → List Sent → Sent
+abbrev first_round : SentCounts → List SentCounts → SentCounts
 first_round t [] = t
 first_round t (u ∷ times) = u
 
-abbrev later_rounds : List Sent → List Sent
+abbrev later_rounds : List SentCounts → List SentCounts
 later_rounds [] = []
 later_rounds (t ∷ times) = times
 
@@ -64,28 +64,28 @@ mixed first c c' i = cond (first i) (c i) (c' i)
 module _ {B : Type 0} (first : Party → Bool) where
   pub connect-mixed : (r : ℕ) (p p' : Party → Process r B) → let c = connect r p in let c' = connect r p' in
       c.received ≡ c'.received → c.sent ≡ c'.sent
-      → connect r (mixed first p p') ≡ connected (mixed first c.ends c'.ends) c.received c.sent
+      → connect r (mixed first p p') ≡ connection (mixed first c.ends c'.ends) c.received c.sent
   unfolding connect
   connect-mixed zero p p' e t = refl
   connect-mixed (suc r) p p' e t =
       let o = λ (i : Party). (p i).sends in
       let o' = λ (i : Party). (p' i).sends in
-      let q = λ (i : Party). (p i).goes_on (λ j. for_party i (o j)) in
-      let q' = λ (i : Party). (p' i).goes_on (λ j. for_party i (o' j)) in
+      let q = λ (i : Party). (p i).next (λ j. for_party i (o j)) in
+      let q' = λ (i : Party). (p' i).next (λ j. for_party i (o' j)) in
       let c = connect r q in
       let c' = connect r q' in
-      let times = ap (first_round (sent o)) t in
+      let times = ap (first_round (sent_lengths o)) t in
       let alike : (i : Party) → o i ≡ o' i = sends_alike o o' c.received c'.received times e in
       let four = mixed first p p' in
       let sends : (i : Party) → (four i).sends ≡ o i =
       λ i. elim (first i) as (λ b. (cond b (p i) (p' i)).sends ≡ o i) [ true ↦ refl | false ↦ sym (alike i) ] in
-      let goes_on : (i : Party) → (four i).goes_on (λ j. for_party i (o j)) ≡ mixed first q q' i =
-      λ i. elim (first i) as (λ b. (cond b (p i) (p' i)).goes_on (λ j. for_party i (o j)) ≡ cond b (q i) (q' i))
-      [ true ↦ refl | false ↦ λ k. (p' i).goes_on (λ j. for_party i (alike j k)) ] in
-      let later : connect r (λ i. (four i).goes_on (λ j. for_party i ((four j).sends))) ≡ connect r (mixed first q q') =
-      ap (connect r) (λ k i. (four i).goes_on (λ j. for_party i (sends j k))) ∙ ap (connect r) (λ k i. goes_on i k) in
-      let before = λ (s : Party → Lists) (d : Connected B).
-      connected d.ends (in_turn s followed_by d.received) (sent s ∷ d.sent) in
+      let goes_on : (i : Party) → (four i).next (λ j. for_party i (o j)) ≡ mixed first q q' i =
+      λ i. elim (first i) as (λ b. (cond b (p i) (p' i)).next (λ j. for_party i (o j)) ≡ cond b (q i) (q' i))
+      [ true ↦ refl | false ↦ λ k. (p' i).next (λ j. for_party i (alike j k)) ] in
+      let later : connect r (λ i. (four i).next (λ j. for_party i ((four j).sends))) ≡ connect r (mixed first q q') =
+      ap (connect r) (λ k i. (four i).next (λ j. for_party i (sends j k))) ∙ ap (connect r) (λ k i. goes_on i k) in
+      let before = λ (s : Party → Lists) (d : Connection B).
+      connection d.ends (in_turn s followed_by d.received) (sent_lengths s ∷ d.sent) in
       (λ k. before (λ i. sends i k) (later k))
       ∙ ap (before o)
       (connect-mixed r q q' (later_alike o o' c.received c'.received times e) (ap later_rounds t))
@@ -116,8 +116,8 @@ module _ {S A : Type 0} {f : Protocol S Shares} {part : Party → S → A} (F : 
       ≡ cond c (four s b i) (four s' b' i)) [ true ↦ refl | false ↦ refl ]
 
   whole : f.received s b ≡ f.received s' b'
-      → connected (λ i. share i (f.result u t)) (f.received u t) F.timetable
-      ≡ connected (mixed first (λ i. share i (f.result s b)) (λ i. share i (f.result s' b')))
+      → connection (λ i. share i (f.result u t)) (f.received u t) F.timetable
+      ≡ connection (mixed first (λ i. share i (f.result s b)) (λ i. share i (f.result s' b')))
       (f.received s b) F.timetable
   whole same =
       let one = F.plays s b in
@@ -125,12 +125,12 @@ module _ {S A : Type 0} {f : Protocol S Shares} {part : Party → S → A} (F : 
       sym (F.plays u t)
       ∙ ap (connect F.rounds) (λ k i. four-mixed i k)
       ∙ connect-mixed first F.rounds (four s b) (four s' b')
-      (ap (λ (c : Connected ℕ). c.received) one ∙ same ∙ sym (ap (λ (c : Connected ℕ). c.received) other))
-      (ap (λ (c : Connected ℕ). c.sent) one ∙ sym (ap (λ (c : Connected ℕ). c.sent) other))
-      ∙ (λ k. connected (mixed first (one k).ends (other k).ends) (one k).received (one k).sent)
+      (ap (λ (c : Connection ℕ). c.received) one ∙ same ∙ sym (ap (λ (c : Connection ℕ). c.received) other))
+      (ap (λ (c : Connection ℕ). c.sent) one ∙ sym (ap (λ (c : Connection ℕ). c.sent) other))
+      ∙ (λ k. connection (mixed first (one k).ends (other k).ends) (one k).received (one k).sent)
 
   received-mixed : f.received s b ≡ f.received s' b' → f.received u t ≡ f.received s b
-  received-mixed same = ap (λ (c : Connected ℕ). c.received) (whole same)
+  received-mixed same = ap (λ (c : Connection ℕ). c.received) (whole same)
 
   result_mixed : f.received s b ≡ f.received s' b' → f.result u t ≡ mixed_shares first (f.result s b) (f.result s' b')
   result_mixed same = λ k. let e = (whole same k).ends in record { one = e One; two = e Two; three = e Three }
@@ -138,7 +138,7 @@ module _ {S A : Type 0} {f : Protocol S Shares} {part : Party → S → A} (F : 
 runs_mixed : {S A : Type 0} {f : Protocol S Shares} {part : Party → S → A} {mix : (Party → Bool) → S → S → S}
     → ((first : Party → Bool) (s s' : S) (i : Party)
     → part i (mix first s s') ≡ mixed first (λ j. part j s) (λ j. part j s') i)
-    → PlayedApart f part share → MixedRuns f mix
+    → PlayedApart f part share → MixedProtocolRuns f mix
 runs_mixed {mix = mix} its F = record {
   received = λ first s s' b b'. received-mixed F first s s' (mix first s s') (its first s s') b b';
   result = λ first s s' b b'. result_mixed F first s s' (mix first s s') (its first s s') b b';
@@ -157,15 +157,15 @@ share_mixed first s s' Two = refl
 share_mixed first s s' Three = refl
 
 pub mixed_of_input : (f : Protocol ℕ Shares) → PlayedApart f input share
-    → MixedRuns f (λ first v v'. cond (first Provider) v v')
+    → MixedProtocolRuns f (λ first v v'. cond (first Provider) v v')
 mixed_of_input f =
     runs_mixed λ first v v'.
     elim [ Provider ↦ refl | One ↦ nothing (first One) | Two ↦ nothing (first Two) | Three ↦ nothing (first Three) ]
 
-pub mixed_of_shares : (f : Protocol Shares Shares) → PlayedApart f share share → MixedRuns f mixed_shares
+pub mixed_of_shares : (f : Protocol Shares Shares) → PlayedApart f share share → MixedProtocolRuns f mixed_shares
 mixed_of_shares f = runs_mixed share_mixed
 
-pub mixed_of_operands : (f : Protocol Operands Shares) → PlayedApart f pair share → MixedRuns f mixed_operands
+pub mixed_of_operands : (f : Protocol Operands Shares) → PlayedApart f pair share → MixedProtocolRuns f mixed_operands
 mixed_of_operands f =
     runs_mixed λ first x x' i.
     (λ k. record { u = share_mixed first x.u x'.u i k; v = share_mixed first x.v x'.v i k })

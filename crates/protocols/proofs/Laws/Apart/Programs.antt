@@ -6,12 +6,12 @@ use Rattle.protocols.specs.declared.place.Received.{Received}
 use Rattle.protocols.specs.declared.shares.Shares.{Shares}
 use Rattle.protocols.specs.Shares.{Miner, one, two, three, prev}
 use Rattle.protocols.specs.Place.{Lists, lists, silence, owner}
-use Rattle.protocols.specs.Counts.{received}
-use Rattle.protocols.specs.Parties.{Mail, Process, Sent}
+use Rattle.protocols.specs.Counts.{received_counts}
+use Rattle.protocols.specs.Parties.{Messages, Process, SentCounts}
 
 -- a round, and then what comes after it
-abbrev pub round : (B : Type 0) (r : ℕ) → Lists → (Mail → Process r B) → Process (suc r) B
-round B r o k = record { sends = o; goes_on = k }
+abbrev pub round : (B : Type 0) (r : ℕ) → Lists → (Messages → Process r B) → Process (suc r) B
+round B r o k = record { sends = o; next = k }
 
 -- word k of a list
 abbrev pub nth : ℕ → List ℕ → ℕ
@@ -20,7 +20,7 @@ nth k l = slice_index l k
 -- the provider does nothing, and has x in the end
 abbrev idle : {B : Type 0} (r : ℕ) → B → Process r B
 idle zero x = x
-idle (suc r) x = record { sends = silence; goes_on = λ m. idle r x }
+idle (suc r) x = record { sends = silence; next = λ m. idle r x }
 
 -- three miners' programs, and an idle provider
 abbrev pub miners : {A B : Type 0} (r : ℕ) → B → (Miner → A → List ℕ → Process r B) → Party → A → List ℕ → Process r B
@@ -55,22 +55,22 @@ for_two_three k l = lists [] k l []
 abbrev pub for_controller : List ℕ → Lists
 for_controller l = lists [] [] [] l
 
-abbrev pub from_previous : Miner → Mail → List ℕ
+abbrev pub from_previous : Miner → Messages → List ℕ
 from_previous i m = m (owner (prev i))
 
 -- ---- timetables: a round in which the provider or the miners send so many words
 
 abbrev pub none : Received
-none = received 0 0 0 0
+none = received_counts 0 0 0 0
 
-abbrev pub provider_sends : Received → Sent
+abbrev pub provider_sends : Received → SentCounts
 provider_sends k = record { provider = k; one = none; two = none; three = none }
 
-abbrev pub miners_send : Received → Received → Received → Sent
+abbrev pub miners_send : Received → Received → Received → SentCounts
 miners_send a b c = record { provider = none; one = a; two = b; three = c }
 
-abbrev pub each_next : ℕ → Sent
-each_next k = miners_send (received 0 k 0 0) (received 0 0 k 0) (received k 0 0 0)
+abbrev pub each_next : ℕ → SentCounts
+each_next k = miners_send (received_counts 0 k 0 0) (received_counts 0 0 k 0) (received_counts k 0 0 0)
 
-abbrev pub one_deals : ℕ → Sent
-one_deals k = miners_send (received 0 k k 0) none none
+abbrev pub one_deals : ℕ → SentCounts
+one_deals k = miners_send (received_counts 0 k k 0) none none

@@ -6,12 +6,12 @@ use Rattle.protocols.specs.Word.{add, sub, mul}
 use Rattle.protocols.specs.Shares.{Miner, one, two, three}
 use Rattle.protocols.specs.Place.{tapes, silence, to_each}
 use Rattle.protocols.specs.Protocol.{locally}
-use Rattle.protocols.specs.Local.{sum, difference, multiple, shifted}
+use Rattle.protocols.specs.Local.{sum, difference, constant_multiple, constant_sum}
 use Rattle.protocols.specs.Reshare.{reshare}
 use Rattle.protocols.specs.Multiply.{product_share, multiply}
 use Rattle.protocols.specs.Open.{opening}
-use Rattle.protocols.specs.Store.{dealt, store}
-use Rattle.protocols.specs.Counts.{received}
+use Rattle.protocols.specs.Store.{dealt_shares, store}
+use Rattle.protocols.specs.Counts.{received_counts}
 use Rattle.protocols.specs.Parties.{Process, connect, PlayedApart}
 use Rattle.protocols.specs.Own.{share, Pair, pair, input}
 use Rattle.protocols.proofs.Laws.Apart.Compose.{alike, apart-locally}
@@ -30,20 +30,20 @@ difference_apart m =
     apart-locally (by_miner (λ i x. sub m x.u x.v))
     (elim [ Provider ↦ λ x. refl | One ↦ λ x. refl | Two ↦ λ x. refl | Three ↦ λ x. refl ])
 
-pub multiple_apart : (m c : ℕ) → PlayedApart (locally (multiple m c)) share share
-multiple_apart m c =
+pub constant_multiple_apart : (m c : ℕ) → PlayedApart (locally (constant_multiple m c)) share share
+constant_multiple_apart m c =
     apart-locally (by_miner (λ i u. mul m u c))
     (elim [ Provider ↦ λ u. refl | One ↦ λ u. refl | Two ↦ λ u. refl | Three ↦ λ u. refl ])
 
-pub shifted_apart : (m c : ℕ) → PlayedApart (locally (shifted m c)) share share
-shifted_apart m c =
+pub constant_sum_apart : (m c : ℕ) → PlayedApart (locally (constant_sum m c)) share share
+constant_sum_apart m c =
     apart-locally (by_miner (λ i u. elim i [ one ↦ add m u c | two ↦ u | three ↦ u ]))
     (elim [ Provider ↦ λ u. refl | One ↦ λ u. refl | Two ↦ λ u. refl | Three ↦ λ u. refl ])
 
 -- ---- store: the provider deals, and each miner keeps what it is sent
 
 abbrev store_program : ℕ → Party → ℕ → List ℕ → Process 1 ℕ
-store_program m Provider v l = round ℕ 0 (to_each (dealt m v (tapes l [] [] []))) (λ mail. 0)
+store_program m Provider v l = round ℕ 0 (to_each (dealt_shares m v (tapes l [] [] []))) (λ mail. 0)
 store_program m One v l = round ℕ 0 silence (λ mail. nth 0 (mail Provider))
 store_program m Two v l = round ℕ 0 silence (λ mail. nth 0 (mail Provider))
 store_program m Three v l = round ℕ 0 silence (λ mail. nth 0 (mail Provider))
@@ -52,7 +52,7 @@ pub store_apart : (m : ℕ) → PlayedApart (store m) input share
 unfolding connect store
 store_apart m = record {
   rounds = 1;
-  timetable = provider_sends (received 1 1 1 0) ∷ [];
+  timetable = provider_sends (received_counts 1 1 1 0) ∷ [];
   program = store_program m;
   plays = λ v b. alike refl refl refl refl refl refl;
 }
@@ -60,14 +60,14 @@ store_apart m = record {
 -- ---- reshare, multiply and open
 
 -- a fresh share, of its own mask r and of the previous miner's
-abbrev freshened : ℕ → ℕ → ℕ → ℕ → ℕ
-freshened m s r r' = sub m (add m s r) r'
+abbrev fresh_share : ℕ → ℕ → ℕ → ℕ → ℕ
+fresh_share m s r r' = sub m (add m s r) r'
 
 abbrev reshare_program : ℕ → Miner → ℕ → List ℕ → Process 1 ℕ
 reshare_program m i s l =
     let r = nth 0 l in
     round ℕ 0 (for_next i (r ∷ [])) λ mail.
-    freshened m s r (nth 0 (from_previous i mail))
+    fresh_share m s r (nth 0 (from_previous i mail))
 
 pub reshare_apart : (m : ℕ) → PlayedApart (reshare m) share share
 unfolding connect reshare
@@ -84,8 +84,8 @@ multiply_program m i x l =
     let r = nth 0 l in
     let s = nth 1 l in
     round ℕ 1 (for_next i (r ∷ s ∷ [])) λ mail.
-    let u = freshened m x.u r (nth 0 (from_previous i mail)) in
-    let v = freshened m x.v s (nth 1 (from_previous i mail)) in
+    let u = fresh_share m x.u r (nth 0 (from_previous i mail)) in
+    let v = fresh_share m x.v s (nth 1 (from_previous i mail)) in
     round ℕ 0 (for_next i (u ∷ v ∷ [])) λ mail'.
     product_share m u v (nth 0 (from_previous i mail')) (nth 1 (from_previous i mail'))
 
@@ -102,14 +102,14 @@ abbrev opening_program : ℕ → Miner → ℕ → List ℕ → Process 2 ℕ
 opening_program m i s l =
     let r = nth 0 l in
     round ℕ 1 (for_next i (r ∷ [])) λ mail.
-    let u = freshened m s r (nth 0 (from_previous i mail)) in
+    let u = fresh_share m s r (nth 0 (from_previous i mail)) in
     round ℕ 0 (for_controller (u ∷ [])) (λ mail'. u)
 
 pub opening_apart : (m : ℕ) → PlayedApart (opening m) share share
 unfolding connect opening
 opening_apart m = record {
   rounds = 2;
-  timetable = each_next 1 ∷ miners_send (received 0 0 0 1) (received 0 0 0 1) (received 0 0 0 1) ∷ [];
+  timetable = each_next 1 ∷ miners_send (received_counts 0 0 0 1) (received_counts 0 0 0 1) (received_counts 0 0 0 1) ∷ [];
   program = miners 2 0 (opening_program m);
   plays = λ s b. alike refl refl refl refl refl refl;
 }

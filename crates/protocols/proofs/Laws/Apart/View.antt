@@ -6,10 +6,10 @@ use Rattle.protocols.specs.declared.shares.Shares.{Shares}
 use Rattle.protocols.specs.Shares.{Miner, one, two, three, at, shares, Operands}
 use Rattle.protocols.specs.Place.{Tapes, tapes, tape, owner}
 use Rattle.protocols.specs.Protocol.{Protocol}
-use Rattle.protocols.specs.Parties.{for_party, Connected, PlayedApart}
+use Rattle.protocols.specs.Parties.{for_party, Connection, PlayedApart}
 use Rattle.protocols.specs.Alone.{Alone, alone}
 use Rattle.protocols.specs.Own.{share, pair, input}
-use Rattle.protocols.specs.Apart.{SameView, NoMagic}
+use Rattle.protocols.specs.Apart.{SameProtocolView, NoMagic}
 use Rattle.protocols.proofs.Laws.Apart.Alone.{alone_is}
 
 module _ {S T A B : Type 0} {f : Protocol S T} {before : Party → S → A} {after : Party → T → B}
@@ -28,7 +28,7 @@ module _ {S T A B : Type 0} {f : Protocol S T} {before : Party → S → A} {aft
       let words = sym (ap (λ c. c.received) e) in
       (λ k. (alone B F.rounds i (times k) (p i) (for_party i (words k))).ends)
       ∙ ap (λ (a : Alone B). a.ends) (alone_is F.rounds p i)
-      ∙ ap (λ (c : Connected B). c.ends i) e
+      ∙ ap (λ (c : Connection B). c.ends i) e
 
   -- in two runs in which it has the same before, draws the same and receives the same words, it has the same after
   same_to_party : (i : Party) (s s' : S) (b b' : Tapes) → before i s ≡ before i s' → tape i b ≡ tape i b'
@@ -42,21 +42,21 @@ module _ {S T A B : Type 0} {f : Protocol S T} {before : Party → S → A} {aft
 -- where what is the Same to a miner is the same that its party has before
 same_to_miner : {S A : Type 0} {f : Protocol S Shares} {before : Party → S → A} {Same : Miner → S → S → Type 0}
     → ((i : Miner) (s s' : S) → Same i s s' → before (owner i) s ≡ before (owner i) s')
-    → PlayedApart f before share → SameView f Same
+    → PlayedApart f before share → SameProtocolView f Same
 same_to_miner part F = elim [
   | one ↦ λ s s' b b' e d w. same_to_party F One s s' b b' (part one s s' e) d w
   | two ↦ λ s s' b b' e d w. same_to_party F Two s s' b b' (part two s s' e) d w
   | three ↦ λ s s' b b' e d w. same_to_party F Three s s' b b' (part three s s' e) d w
 ]
 
-pub view_of_input : (f : Protocol ℕ Shares) → PlayedApart f input share → SameView f (λ i v v'. Unit {0})
+pub view_of_input : (f : Protocol ℕ Shares) → PlayedApart f input share → SameProtocolView f (λ i v v'. Unit {0})
 view_of_input f = same_to_miner (elim [ one ↦ λ v v' e. refl | two ↦ λ v v' e. refl | three ↦ λ v v' e. refl ])
 
-pub view_of_shares : (f : Protocol Shares Shares) → PlayedApart f share share → SameView f (λ i s s'. at i s ≡ at i s')
+pub view_of_shares : (f : Protocol Shares Shares) → PlayedApart f share share → SameProtocolView f (λ i s s'. at i s ≡ at i s')
 view_of_shares f = same_to_miner (elim [ one ↦ λ s s' e. e | two ↦ λ s s' e. e | three ↦ λ s s' e. e ])
 
 pub view_of_operands : (f : Protocol Operands Shares) → PlayedApart f pair share
-    → SameView f (λ i x x'. (at i x.u ≡ at i x'.u) × (at i x.v ≡ at i x'.v))
+    → SameProtocolView f (λ i x x'. (at i x.u ≡ at i x'.u) × (at i x.v ≡ at i x'.v))
 view_of_operands f = same_to_miner (elim [
   | one ↦ λ x x' e k. record { u = e.0 k; v = e.1 k }
   | two ↦ λ x x' e k. record { u = e.0 k; v = e.1 k }

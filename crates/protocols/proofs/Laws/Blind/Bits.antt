@@ -3,60 +3,60 @@ use Rattle.std.proofs.Common.{◌≡◌, ℕ, zero, suc, ◌^◌, ◌<◌, List,
 use lib.Bits.{bit_xor, xor_lt}
 use Rattle.protocols.specs.declared.place.Party.TheVariants.{One}
 use Rattle.protocols.specs.declared.shares.Shares.{Shares}
-use Rattle.protocols.specs.declared.bits.Dealt.{Dealt}
-use Rattle.protocols.specs.declared.bits.Held.{Held}
-use Rattle.protocols.specs.Word.{width, modulus, add, sub, up}
-use Rattle.protocols.specs.Shares.{Miner, one, two, three, prev, at, each, shares, AreWords}
+use Rattle.protocols.specs.declared.bits.Dealing.{Dealing}
+use Rattle.protocols.specs.declared.bits.CarryState.{CarryState}
+use Rattle.protocols.specs.Word.{width, modulus, add, sub, shift_up}
+use Rattle.protocols.specs.Shares.{Miner, one, two, three, prev, at, each, shares, SharesAreWords}
 use Rattle.protocols.specs.Place.{Tapes, counts, word, words, miner}
-use Rattle.protocols.specs.Masked.{masked}
-use Rattle.protocols.specs.Bits.{r₃, R₃, v₂, v₃, p₀, s₀, deal, exchange, round_s, round_p, round, rounds, joined, bits}
+use Rattle.protocols.specs.Masked.{masked_shares}
+use Rattle.protocols.specs.Bits.{r₃, R₃, v₂, v₃, p₀, s₀, deal, exchange, round_s, round_p, round, rounds, sum_bits, bits}
 use Rattle.protocols.specs.Contents.{Contents}
 use Rattle.protocols.specs.Blind.{Observer, Sees, SameShares, Blind}
 use Rattle.protocols.proofs.Laws.Ring.{sub-lt, sub-sub, sub_comm, regroup, add-sub-left, sub-add-left}
 use Rattle.protocols.proofs.Laws.Bitwise.{xor_cancel_l}
 use Rattle.protocols.proofs.Laws.Shared.{round_s-lt, round_p-lt}
 use Rattle.protocols.proofs.Laws.Blocks.{word_lt}
-use Rattle.protocols.proofs.Laws.Bounds.{DealtWords, dealt-words, p₀-words, s₀-words}
+use Rattle.protocols.proofs.Laws.Bounds.{DealingWords, dealing-words, p₀-words, s₀-words}
 use Rattle.protocols.proofs.Laws.Blind.Compose.{BlindFor, Seen, blind_then, blind_then_any, unmasked_for, blind-locally, blind_silent}
-use Rattle.protocols.proofs.Laws.Blind.Cover.{change, Undone, changed_for, listed_get_or, Mixes, Known, covered_for}
+use Rattle.protocols.proofs.Laws.Blind.Cover.{change, Undone, changed_for, listed_get_or, Mixes, Known, cover_for}
 use Rattle.protocols.proofs.Laws.Blind.Miner.{SameAt, own_same, near_same, next_same, next_followed}
 use Rattle.protocols.proofs.Laws.Blind.Miner.{two-three-same, pick, pick_words}
 
 -- ---- what looks the same to miner i
 
 -- after the dealing: its own masked share and R, and the masked share that it will receive
-record SameDealt (i : Miner) (d d' : Dealt) : Type 0 where
+record SameDealing (i : Miner) (d d' : Dealing) : Type 0 where
   own : SameAt i (shares 0 d.v2 d.v3) (shares 0 d'.v2 d'.v3)
   bar : SameAt i (shares 0 d.bar2 d.bar3) (shares 0 d'.bar2 d'.bar3)
   due : SameAt i (shares 0 d.v3 d.v2) (shares 0 d'.v3 d'.v2)
 
 -- between two rounds: its shares, and the masked shares of the next round, its own and those that it will receive
-record SameHeld (i : Miner) (h h' : Held) : Type 0 where
+record SameCarryState (i : Miner) (h h' : CarryState) : Type 0 where
   s : SameAt i h.s h'.s
   base : SameAt i h.base h'.base
-  own_p : SameAt i (masked h.p h.q) (masked h'.p h'.q)
-  own_s : SameAt i (masked h.s h.t) (masked h'.s h'.t)
-  prev_p : SameAt (prev i) (masked h.p h.q) (masked h'.p h'.q)
-  prev_s : SameAt (prev i) (masked h.s h.t) (masked h'.s h'.t)
+  own_p : SameAt i (masked_shares h.p h.q) (masked_shares h'.p h'.q)
+  own_s : SameAt i (masked_shares h.s h.t) (masked_shares h'.s h'.t)
+  prev_p : SameAt (prev i) (masked_shares h.p h.q) (masked_shares h'.p h'.q)
+  prev_s : SameAt (prev i) (masked_shares h.s h.t) (masked_shares h'.s h'.t)
 
 -- ---- masks by exclusive or
 
-abbrev pub xored : ℕ → ℕ → ℕ → ℕ
-xored x a b = bit_xor (bit_xor x a) b
+abbrev pub xor_mix : ℕ → ℕ → ℕ → ℕ
+xor_mix x a b = bit_xor (bit_xor x a) b
 
-pub xor_mixes : (w : ℕ) → Mixes (2 ^ w) xored
+pub xor_mixes : (w : ℕ) → Mixes (2 ^ w) xor_mix
 xor_mixes w = record {
   mix_lt = λ x a b hx ha hb. xor_lt w (bit_xor x a) b (xor_lt w x a hx ha) hb;
   mix_mix = λ x a b h. xor_cancel_l (bit_xor x a) b;
 }
 
 -- shares p, s with new masks q, t
-abbrev held : Shares → Shares → Shares → Tapes → Held
-held p s base b = record { p = p; s = s; q = words b 0; t = words b 1; base = base }
+abbrev state_of : Shares → Shares → Shares → Tapes → CarryState
+state_of p s base b = record { p = p; s = s; q = words b 0; t = words b 1; base = base }
 
-held_same : (i : Miner) (p p' s s' base base' : Shares) (b b' : Tapes) → SameAt i p p' → SameAt i s s' → SameAt i base base'
-    → Known i 2 xored (λ k. pick k p s) (λ k. pick k p' s') b b' → SameHeld i (held p s base b) (held p' s' base' b')
-held_same i p p' s s' base base' b b' ep es eb z = record {
+state_of-same : (i : Miner) (p p' s s' base base' : Shares) (b b' : Tapes) → SameAt i p p' → SameAt i s s' → SameAt i base base'
+    → Known i 2 xor_mix (λ k. pick k p s) (λ k. pick k p' s') b b' → SameCarryState i (state_of p s base b) (state_of p' s' base' b')
+state_of-same i p p' s s' base base' b b' ep es eb z = record {
   s = es;
   base = eb;
   own_p = z.mixed_own 0 ep;
@@ -109,7 +109,7 @@ module _ (n : ℕ) where
   mask-three_undone : (u : Shares) → Undone m (counts 0 3 0 0) One (mask-three u) (unmask-three u)
   mask-three_undone u = record {
     makes = λ t c.
-        let d = dealt-words (width n) u t c in
+        let d = dealing-words (width n) u t c in
         record { long = refl; below = (sub-lt m pos _ _, (d.v2, (d.bar3, tt))) };
     undo = λ t c.
         let t' = change One (mask-three u t) t in
@@ -135,7 +135,7 @@ module _ (n : ℕ) where
         cc (e₀, e₁, e₂) ∙ listed_get_or 3 t.one (c One);
   }
 
-  deal_for : {Good : Shares → Type 0} (i : Miner) (o : Observer) → Sees o (miner i) → BlindFor m i (deal n) Good (SameShares o) (SameDealt i)
+  deal_for : {Good : Shares → Type 0} (i : Miner) (o : Observer) → Sees o (miner i) → BlindFor m i (deal n) Good (SameShares o) (SameDealing i)
   unfolding deal
   deal_for one o e = unmasked_for (λ u u' r t. (record { own = refl; bar = refl; due = refl }, refl))
   deal_for two o e =
@@ -153,81 +153,81 @@ module _ (n : ℕ) where
       let e₂ : R₃ t ≡ R₃ t' = ap (λ (x : Tapes). word x one 2) d in
       (record { own = cc (own, e₀); bar = e₂; due = e₁ }, cc (e₀, e₂))
 
-  deal-blind : {Good : Shares → Type 0} (o : Observer) → Blind m o (deal n) Good (SameShares o) (Seen SameDealt o)
+  deal-blind : {Good : Shares → Type 0} (o : Observer) → Blind m o (deal n) Good (SameShares o) (Seen SameDealing o)
   unfolding deal
   deal-blind = blind_silent (λ u t. refl) deal_for
 
   -- ---- the exchange
 
   -- the shares that it leaves
-  p₀_same : (i : Miner) (d d' : Dealt) → SameDealt i d d' → SameAt i (p₀ m d) (p₀ m d')
+  p₀_same : (i : Miner) (d d' : Dealing) → SameDealing i d d' → SameAt i (p₀ m d) (p₀ m d')
   p₀_same one d d' h = refl
   p₀_same two d d' h = cc (h.own, h.bar, h.due)
   p₀_same three d d' h = h.bar
 
-  s₀_same : (i : Miner) (d d' : Dealt) → SameDealt i d d' → SameAt i (s₀ m d) (s₀ m d')
+  s₀_same : (i : Miner) (d d' : Dealing) → SameDealing i d d' → SameAt i (s₀ m d) (s₀ m d')
   s₀_same one d d' h = refl
   s₀_same two d d' h = cc (h.own, h.bar, h.due)
   s₀_same three d d' h = cc (h.own, h.bar, h.due)
 
   exchange_for : (i : Miner) (o : Observer) → Sees o (miner i)
-      → BlindFor m i (exchange n) (DealtWords m) (Seen SameDealt o) (SameHeld i)
+      → BlindFor m i (exchange n) (DealingWords m) (Seen SameDealing o) (SameCarryState i)
   unfolding exchange
   exchange_for i o e =
-      covered_for i 2 refl (xor_mixes (width n)) (λ d k. pick k (p₀ m d) (s₀ m d))
+      cover_for i 2 refl (xor_mixes (width n)) (λ d k. pick k (p₀ m d) (s₀ m d))
       (λ d a k. pick_words k _ _ (p₀-words (width n) a) (s₀-words (width n) a)) λ d d' r b b' z.
       let y = r i e in
       let ep = p₀_same i d d' y in
       let due = two-three-same i _ _ _ _ y.due in
       let got = next_followed i _ _ _ _ (z.before 0) (next_followed i _ _ _ _ (z.before 1) due) in
-      (held_same i _ _ _ _ _ _ b b' ep (s₀_same i d d' y) ep z, got)
+      (state_of-same i _ _ _ _ _ _ b b' ep (s₀_same i d d' y) ep z, got)
 
-  exchange-blind : (o : Observer) → Blind m o (exchange n) (DealtWords m) (Seen SameDealt o) (Seen SameHeld o)
+  exchange-blind : (o : Observer) → Blind m o (exchange n) (DealingWords m) (Seen SameDealing o) (Seen SameCarryState o)
   unfolding exchange
   exchange-blind = blind_silent (λ d t. refl) exchange_for
 
   -- ---- the rounds
 
   -- the shares that round k leaves
-  abbrev new_p : ℕ → Held → Shares
-  new_p k h = let p = masked h.p h.q in each (λ i. round_p (width n) k (at i p) (at (prev i) p))
+  abbrev new_p : ℕ → CarryState → Shares
+  new_p k h = let p = masked_shares h.p h.q in each (λ i. round_p (width n) k (at i p) (at (prev i) p))
 
-  abbrev new_s : ℕ → Held → Shares
+  abbrev new_s : ℕ → CarryState → Shares
   new_s k h =
-      let p = masked h.p h.q in
-      let s = masked h.s h.t in
+      let p = masked_shares h.p h.q in
+      let s = masked_shares h.s h.t in
       each (λ i. round_s (width n) k (at i p) (at (prev i) p) (at i s) (at (prev i) s))
 
-  new_p_words : (k : ℕ) (h : Held) → AreWords m (new_p k h)
+  new_p_words : (k : ℕ) (h : CarryState) → SharesAreWords m (new_p k h)
   new_p_words k h = elim [ one ↦ round_p-lt (width n) k _ _ | two ↦ round_p-lt (width n) k _ _ | three ↦ round_p-lt (width n) k _ _ ]
 
-  new_s_words : (k : ℕ) (h : Held) → AreWords m (new_s k h)
+  new_s_words : (k : ℕ) (h : CarryState) → SharesAreWords m (new_s k h)
   new_s_words k h = elim [ one ↦ round_s-lt (width n) k _ _ _ _ | two ↦ round_s-lt (width n) k _ _ _ _ | three ↦ round_s-lt (width n) k _ _ _ _ ]
 
-  round_for : {Good : Held → Type 0} (k : ℕ) (i : Miner) (o : Observer) → Sees o (miner i)
-      → BlindFor m i (round n k) Good (Seen SameHeld o) (SameHeld i)
+  round_for : {Good : CarryState → Type 0} (k : ℕ) (i : Miner) (o : Observer) → Sees o (miner i)
+      → BlindFor m i (round n k) Good (Seen SameCarryState o) (SameCarryState i)
   unfolding round
   round_for k i o e =
-      covered_for i 2 refl (xor_mixes (width n)) (λ h l. pick l (new_p k h) (new_s k h))
+      cover_for i 2 refl (xor_mixes (width n)) (λ h l. pick l (new_p k h) (new_s k h))
       (λ h a l. pick_words l (new_p k h) (new_s k h) (new_p_words k h) (new_s_words k h)) λ h h' r b b' z.
       let y = r i e in
       let ep = near_same (λ p p' s s'. round_p (width n) k p p') i _ _ _ _ y.own_p y.prev_p y.own_p y.prev_p in
       let es = near_same (round_s (width n) k) i _ _ _ _ y.own_p y.prev_p y.own_s y.prev_s in
       let masks = next_followed i _ _ _ _ (z.before 0) (next_same i _ _ (z.before 1)) in
       let got = next_followed i _ _ _ _ y.prev_p (next_followed i _ _ _ _ y.prev_s masks) in
-      (held_same i _ _ _ _ _ _ b b' ep es y.base z, got)
+      (state_of-same i _ _ _ _ _ _ b b' ep es y.base z, got)
 
-  round-blind : {Good : Held → Type 0} (k : ℕ) (o : Observer) → Blind m o (round n k) Good (Seen SameHeld o) (Seen SameHeld o)
+  round-blind : {Good : CarryState → Type 0} (k : ℕ) (o : Observer) → Blind m o (round n k) Good (Seen SameCarryState o) (Seen SameCarryState o)
   unfolding round
   round-blind k = blind_silent (λ h t. refl) (round_for k)
 
-  rounds-blind : {Good : Shares → Type 0} (k : ℕ) (o : Observer) → Blind m o (rounds n k) Good (SameShares o) (Seen SameHeld o)
+  rounds-blind : {Good : Shares → Type 0} (k : ℕ) (o : Observer) → Blind m o (rounds n k) Good (SameShares o) (Seen SameCarryState o)
   unfolding rounds deal
-  rounds-blind zero o = blind_then (deal-blind o) (λ u a t c. dealt-words (width n) u t c) (exchange-blind o)
+  rounds-blind zero o = blind_then (deal-blind o) (λ u a t c. dealing-words (width n) u t c) (exchange-blind o)
   rounds-blind (suc k) o = blind_then_any (rounds-blind k o) (round-blind k o)
 
   pub bits_blind : {Good : Shares → Type 0} (o : Observer) → Blind (modulus n) o (bits n) Good (SameShares o) (SameShares o)
   unfolding bits
   bits_blind o =
       blind_then_any (rounds-blind n o)
-      (blind-locally (joined (width n)) (λ h h' r i e. own_same (λ j s v. bit_xor (up (width n) s) v) i _ _ _ _ (r i e).s (r i e).base))
+      (blind-locally (sum_bits (width n)) (λ h h' r i e. own_same (λ j s v. bit_xor (shift_up (width n) s) v) i _ _ _ _ (r i e).s (r i e).base))

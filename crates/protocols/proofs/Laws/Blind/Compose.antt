@@ -1,13 +1,14 @@
 -- Blindness in general: one protocol after another, protocols with no mask, and from single miners to every observer.
 use Rattle.std.proofs.Common.{◌≡◌, ℕ, [], ◌++◌, sym, refl, ap, ◌∙◌, subst, ap₂}
+use Rattle.protocols.specs.declared.place.Drawn.{Drawn}
 use Rattle.protocols.specs.declared.place.Party.{Party}
 use Rattle.protocols.specs.declared.place.Party.TheVariants.{Provider, One, Two, Three}
 use Rattle.protocols.specs.Shares.{Miner, one, two, three}
-use Rattle.protocols.specs.Place.{Tapes, tape, owner, plus, cut, rest, join, Lists, Receiver, miner, controller, list, ◌followed_by◌}
+use Rattle.protocols.specs.Place.{Tapes, tape, owner, plus, cut, rest, Lists, Receiver, miner, controller, list, ◌followed_by◌}
 use Rattle.protocols.specs.Protocol.{Protocol, locally, ◌then◌}
 use Rattle.protocols.specs.Contents.{Contents}
 use Rattle.protocols.specs.Blind.{Observer, watching, controlling, both, Sees, Holds, Blind}
-use Rattle.protocols.proofs.Laws.Blocks.{contents_cut, contents_rest, contents_join, join-cut-rest, cut-join, rest-join}
+use Rattle.protocols.proofs.Laws.Blocks.{join, contents_cut, contents_rest, contents_join, join-cut-rest, cut-join, rest-join}
 
 -- ---- one protocol after another
 
@@ -31,6 +32,11 @@ list_followed (miner one) l k = refl
 list_followed (miner two) l k = refl
 list_followed (miner three) l k = refl
 list_followed controller l k = refl
+
+-- of a block x and y put together: what takes x and y back to the parts of b takes the whole back to b
+parts_back : (m : ℕ) (n : Drawn) (back : Tapes → Tapes → Tapes) (x y b : Tapes) → Contents m n x
+    → back x y ≡ join (cut n b) (rest n b) → back (cut n (join x y)) (rest n (join x y)) ≡ b
+parts_back m n back x y b h e = ap₂ back (cut-join m n x y h) (rest-join m n x y h) ∙ e ∙ join-cut-rest n b
 
 -- g after f, whose results are Good' for g
 module _ {m : ℕ} {o : Observer} {S T Z : Type 0} {f : Protocol S T} {g : Protocol T Z} {Good : S → Type 0} {Good' : T → Type 0}
@@ -75,23 +81,19 @@ module _ {m : ℕ} {o : Observer} {S T Z : Type 0} {f : Protocol S T} {g : Proto
     unmask_mask = λ s a b h.
         let c = cut f.draws b in
         let hc = first_part b h in
-        let x = F.mask s c in
-        let hx = F.mask_words s a c hc in
         let y = G.mask (f.result s c) (rest f.draws b) in
-        ap₂ (unmask_parts s) (cut-join m f.draws x y hx) (rest-join m f.draws x y hx)
-        ∙ ap (λ (z : Tapes). join z (G.unmask (f.result s z) y)) (F.unmask_mask s a c hc)
-        ∙ ap (join c) (G.unmask_mask (f.result s c) (made s a c hc) (rest f.draws b) (second_part b h))
-        ∙ join-cut-rest f.draws b;
+        parts_back m f.draws (unmask_parts s) (F.mask s c) y b (F.mask_words s a c hc)
+        (ap (λ (z : Tapes). join z (G.unmask (f.result s z) y)) (F.unmask_mask s a c hc)
+        ∙ ap (join c) (G.unmask_mask (f.result s c) (made s a c hc) (rest f.draws b) (second_part b h)));
     mask_unmask = λ s a b h.
         let c = cut f.draws b in
         let hc = first_part b h in
         let x = F.unmask s c in
         let hx = F.unmask_words s a c hc in
         let y = G.unmask (f.result s x) (rest f.draws b) in
-        ap₂ (mask_parts s) (cut-join m f.draws x y hx) (rest-join m f.draws x y hx)
-        ∙ ap (λ (z : Tapes). join z (G.mask (f.result s x) y)) (F.mask_unmask s a c hc)
-        ∙ ap (join c) (G.mask_unmask (f.result s x) (made s a x hx) (rest f.draws b) (second_part b h))
-        ∙ join-cut-rest f.draws b;
+        parts_back m f.draws (mask_parts s) x y b hx
+        (ap (λ (z : Tapes). join z (G.mask (f.result s x) y)) (F.mask_unmask s a c hc)
+        ∙ ap (join c) (G.mask_unmask (f.result s x) (made s a x hx) (rest f.draws b) (second_part b h)));
     mask_own = own_parts;
     same = λ s s' a a' r b b' h h' e.
         let c = cut f.draws b in

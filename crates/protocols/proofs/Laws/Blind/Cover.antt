@@ -1,10 +1,11 @@
--- Masks of one tape, and the mask that most steps share: what miner i comes to know covers, word by word, what the next miner draws.
+-- Masks of one tape, and the mask that most steps share.
+-- What miner i comes to know covers, word by word, what the next miner draws.
 use Rattle.std.proofs.Common.{◌≡◌, ℕ, zero, suc, ◌<◌, List, [], ◌∷◌, get_or, sym, refl, ap, ◌∙◌, ap₂, suc-le-suc, le_of_suc-le-suc, zero-lt-suc, arith}
 use Rattle.protocols.specs.declared.place.Party.{Party}
 use Rattle.protocols.specs.declared.place.Party.TheVariants.{Provider, One, Two, Three}
 use Rattle.protocols.specs.declared.place.Drawn.{Drawn}
 use Rattle.protocols.specs.declared.shares.Shares.{Shares}
-use Rattle.protocols.specs.Shares.{Miner, one, two, three, prev, at, each, AreWords}
+use Rattle.protocols.specs.Shares.{Miner, one, two, three, prev, at, each, SharesAreWords}
 use Rattle.protocols.specs.Place.{Tapes, tapes, tape, counts, count, owner, word, words}
 use Rattle.protocols.specs.Protocol.{Protocol}
 use Rattle.protocols.specs.Contents.{Words, Contents}
@@ -62,28 +63,28 @@ changed_for p kept g h there back alike = record {
 
 -- ---- a list of n words, by its words
 
-abbrev listed : ℕ → (ℕ → ℕ) → List ℕ
-listed zero g = []
-listed (suc n) g = g 0 ∷ listed n (λ k. g (suc k))
+abbrev list_of : ℕ → (ℕ → ℕ) → List ℕ
+list_of zero g = []
+list_of (suc n) g = g 0 ∷ list_of n (λ k. g (suc k))
 
-listed_words : {m : ℕ} (n : ℕ) (g : ℕ → ℕ) → ((k : ℕ) → k < n → g k < m) → Words m n (listed n g)
+listed_words : {m : ℕ} (n : ℕ) (g : ℕ → ℕ) → ((k : ℕ) → k < n → g k < m) → Words m n (list_of n g)
 listed_words zero g h = record { long = refl; below = tt }
 listed_words (suc n) g h =
     let w = listed_words n (λ k. g (suc k)) (λ k l. h (suc k) (suc-le-suc l)) in
     record { long = ap suc w.long; below = (h 0 (zero-lt-suc n), w.below) }
 
-pub listed_get_or : {m : ℕ} (n : ℕ) (l : List ℕ) → Words m n l → listed n (λ k. get_or l k 0) ≡ l
+pub listed_get_or : {m : ℕ} (n : ℕ) (l : List ℕ) → Words m n l → list_of n (λ k. get_or l k 0) ≡ l
 listed_get_or zero [] h = refl
 listed_get_or zero (a ∷ l) h = absurd (omega (arith, h.long))
 listed_get_or (suc n) [] h = absurd (omega (arith, h.long))
 listed_get_or (suc n) (a ∷ l) h = ap (λ (x : List ℕ). a ∷ x) (listed_get_or n l (record { long = omega (arith, h.long); below = h.below.1 }))
 
-get_or_listed : (n : ℕ) (g : ℕ → ℕ) (k : ℕ) → k < n → get_or (listed n g) k 0 ≡ g k
+get_or_listed : (n : ℕ) (g : ℕ → ℕ) (k : ℕ) → k < n → get_or (list_of n g) k 0 ≡ g k
 get_or_listed zero g k h = absurd (omega arith)
 get_or_listed (suc n) g zero h = refl
 get_or_listed (suc n) g (suc k) h = get_or_listed n (λ j. g (suc j)) k (le_of_suc-le-suc h)
 
-listed_same : (n : ℕ) (g h : ℕ → ℕ) → ((k : ℕ) → k < n → g k ≡ h k) → listed n g ≡ listed n h
+listed_same : (n : ℕ) (g h : ℕ → ℕ) → ((k : ℕ) → k < n → g k ≡ h k) → list_of n g ≡ list_of n h
 listed_same zero g h e = refl
 listed_same (suc n) g h e =
     ap₂ (λ (a : ℕ) (l : List ℕ). a ∷ l) (e 0 (zero-lt-suc n)) (listed_same n (λ k. g (suc k)) (λ k. h (suc k)) (λ k l. e (suc k) (suc-le-suc l)))
@@ -115,11 +116,11 @@ pub record Mixes (m : ℕ) (mix : ℕ → ℕ → ℕ → ℕ) : Type 0 where
   pub mix_lt : (x a b : ℕ) → x < m → a < m → b < m → mix x a b < m
   pub mix_mix : (x a b : ℕ) → b < m → mix x a (mix x a b) ≡ b
 
-abbrev pub mixed : (ℕ → ℕ → ℕ → ℕ) → Shares → Shares → Shares
-mixed mix s r = each (λ i. mix (at i s) (at i r) (at (prev i) r))
+abbrev pub mix_shares : (ℕ → ℕ → ℕ → ℕ) → Shares → Shares → Shares
+mix_shares mix s r = each (λ i. mix (at i s) (at i r) (at (prev i) r))
 
 at_mixed : (mix : ℕ → ℕ → ℕ → ℕ) (i : Miner) (s : Shares) (t : Tapes) (k : ℕ)
-    → at i (mixed mix s (words t k)) ≡ mix (at i s) (word t i k) (word t (prev i) k)
+    → at i (mix_shares mix s (words t k)) ≡ mix (at i s) (word t i k) (word t (prev i) k)
 at_mixed mix one s t k = refl
 at_mixed mix two s t k = refl
 at_mixed mix three s t k = refl
@@ -127,19 +128,19 @@ at_mixed mix three s t k = refl
 module _ (i : Miner) (n : ℕ) (mix : ℕ → ℕ → ℕ → ℕ) where
   -- the previous miner's masked shares, in place of the next miner's words
   abbrev cover : (ℕ → Shares) → Tapes → List ℕ
-  cover x b = listed n (λ k. mix (at (prev i) (x k)) (word b (prev i) k) (word b (next i) k))
+  cover x b = list_of n (λ k. mix (at (prev i) (x k)) (word b (prev i) k) (word b (next i) k))
 
-  abbrev covered : (ℕ → Shares) → Tapes → Tapes
-  covered x b = change (owner (next i)) (cover x b) b
+  abbrev with_cover : (ℕ → Shares) → Tapes → Tapes
+  with_cover x b = change (owner (next i)) (cover x b) b
 
   -- what miner i knows of two runs with the same covered words
   pub record Known (x x' : ℕ → Shares) (b b' : Tapes) : Type 0 where
     pub before : (k : ℕ) → SameAt (prev i) (words b k) (words b' k)
-    pub mixed_own : (k : ℕ) → SameAt i (x k) (x' k) → SameAt i (mixed mix (x k) (words b k)) (mixed mix (x' k) (words b' k))
-    pub mixed_prev : (k : ℕ) → k < n → SameAt (prev i) (mixed mix (x k) (words b k)) (mixed mix (x' k) (words b' k))
+    pub mixed_own : (k : ℕ) → SameAt i (x k) (x' k) → SameAt i (mix_shares mix (x k) (words b k)) (mix_shares mix (x' k) (words b' k))
+    pub mixed_prev : (k : ℕ) → k < n → SameAt (prev i) (mix_shares mix (x k) (words b k)) (mix_shares mix (x' k) (words b' k))
 
-  covered_known : (x x' : ℕ → Shares) (b b' : Tapes) → covered x b ≡ covered x' b' → Known x x' b b'
-  covered_known x x' b b' e = record {
+  with_cover-known : (x x' : ℕ → Shares) (b b' : Tapes) → with_cover x b ≡ with_cover x' b' → Known x x' b b'
+  with_cover-known x x' b b' e = record {
     before = λ k. at_words (prev i) b k ∙ ap (λ (r : List ℕ). get_or r k 0) prevs ∙ sym (at_words (prev i) b' k);
     mixed_own = λ k h. at_mixed mix i (x k) b k ∙ cc (h, owns, prevs) ∙ sym (at_mixed mix i (x' k) b' k);
     mixed_prev = λ k h.
@@ -158,26 +159,26 @@ module _ (i : Miner) (n : ℕ) (mix : ℕ → ℕ → ℕ → ℕ) where
       covers = sym (tape_change (owner (next i)) (cover x b) b) ∙ ap (tape (owner (next i))) e ∙ tape_change (owner (next i)) (cover x' b') b'
 
   module _ (m : ℕ) (laws : Mixes m mix) (x : ℕ → Shares) (b : Tapes) (drawn : (j : Miner) → Words m n (tape (owner j) b)) where
-    cover_words : ((k : ℕ) → AreWords m (x k)) → Words m n (cover x b)
+    cover_words : ((k : ℕ) → SharesAreWords m (x k)) → Words m n (cover x b)
     cover_words h = listed_words n _ (λ k l. laws.mix_lt _ _ _ (h k (prev i)) (word_lt _ k (drawn (prev i)) l) (word_lt _ k (drawn (next i)) l))
 
-    mix_covered : (k : ℕ) → k < n → mix (at (prev i) (x k)) (word (covered x b) (prev i) k) (word (covered x b) (next i) k) ≡ word b (next i) k
+    mix_covered : (k : ℕ) → k < n → mix (at (prev i) (x k)) (word (with_cover x b) (prev i) k) (word (with_cover x b) (next i) k) ≡ word b (next i) k
     mix_covered k h =
         let e = ap (λ (r : List ℕ). get_or r k 0) (kept_prev i (cover x b) b) in
         let f = ap (λ (r : List ℕ). get_or r k 0) (tape_change (owner (next i)) (cover x b) b) ∙ get_or_listed n _ k h in
         ap₂ (mix (at (prev i) (x k))) e f ∙ laws.mix_mix _ _ (word b (next i) k) (word_lt _ k (drawn (next i)) h)
 
-    cover_covered : cover x (covered x b) ≡ tape (owner (next i)) b
+    cover_covered : cover x (with_cover x b) ≡ tape (owner (next i)) b
     cover_covered = listed_same n _ (word b (next i)) mix_covered ∙ listed_get_or n (tape (owner (next i)) b) (drawn (next i))
 
-pub covered_for : {m : ℕ} {S T : Type 0} {f : Protocol S T} {Good : S → Type 0} {Same : S → S → Type 0} {After : T → T → Type 0} {mix : ℕ → ℕ → ℕ → ℕ}
+pub cover_for : {m : ℕ} {S T : Type 0} {f : Protocol S T} {Good : S → Type 0} {Same : S → S → Type 0} {After : T → T → Type 0} {mix : ℕ → ℕ → ℕ → ℕ}
     (i : Miner) (n : ℕ) → f.draws ≡ counts 0 n n n → Mixes m mix
-    → (x : S → ℕ → Shares) → ((s : S) → Good s → (k : ℕ) → AreWords m (x s k))
+    → (x : S → ℕ → Shares) → ((s : S) → Good s → (k : ℕ) → SharesAreWords m (x s k))
     → ((s s' : S) → Same s s' → (b b' : Tapes) → Known i n mix (x s) (x s') b b' → AlikeFor i f After s s' b b')
     → BlindFor m i f Good Same After
-covered_for {m} {S} {f = f} {Good} {mix = mix} i n draws laws x x-words alike =
+cover_for {m} {S} {f = f} {Good} {mix = mix} i n draws laws x x-words alike =
     changed_for (owner (next i)) (kept_own i) (λ s. cover i n mix (x s)) (λ s. cover i n mix (x s)) cover_undone cover_undone λ s s' r b b' e.
-    alike s s' r b b' (covered_known i n mix (x s) (x s') b b' e)
+    alike s s' r b b' (with_cover-known i n mix (x s) (x s') b b' e)
   where
     draws-each : (j : Miner) → count (owner j) f.draws ≡ n
     draws-each one = ap (count One) draws

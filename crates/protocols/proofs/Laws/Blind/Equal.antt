@@ -2,34 +2,34 @@
 use Rattle.std.proofs.Common.{◌≡◌, ℕ, zero, suc, ◌-◌, ◌<◌, List, [], ◌∷◌, refl, ap, ◌∙◌, arith, pow_pos}
 use Rattle.protocols.specs.declared.place.Party.TheVariants.{One}
 use Rattle.protocols.specs.declared.shares.Shares.{Shares}
-use Rattle.protocols.specs.declared.equal.Folding.{Folding}
+use Rattle.protocols.specs.declared.equal.FoldState.{FoldState}
 use Rattle.protocols.specs.Word.{width, modulus}
-use Rattle.protocols.specs.Shares.{Miner, one, two, three, prev, at, each, AreWords, Operands}
+use Rattle.protocols.specs.Shares.{Miner, one, two, three, prev, at, each, SharesAreWords, Operands}
 use Rattle.protocols.specs.Place.{Tapes, counts, word, words, miner}
-use Rattle.protocols.specs.Masked.{masked}
-use Rattle.protocols.specs.Equal.{r₃, compare, begin, fold_share, fold, folds, equal}
+use Rattle.protocols.specs.Masked.{masked_shares}
+use Rattle.protocols.specs.Equal.{r₃, compare, first_masks, fold_share, fold, folds, equal}
 use Rattle.protocols.specs.Below.{below}
 use Rattle.protocols.specs.Blind.{Observer, Sees, SameShares, SameOperands, Blind}
 use Rattle.protocols.proofs.Laws.Ring.{sub-lt, sub-sub}
 use Rattle.protocols.proofs.Laws.Shared.{fold_share-lt}
 use Rattle.protocols.proofs.Laws.Blocks.{word_lt}
-use Rattle.protocols.proofs.Laws.Bounds.{compared-words}
+use Rattle.protocols.proofs.Laws.Bounds.{comparison-words}
 use Rattle.protocols.proofs.Laws.Blind.Compose.{BlindFor, Seen, blind_then, blind_then_any, unmasked_for, blind-locally, blind_silent}
-use Rattle.protocols.proofs.Laws.Blind.Cover.{Undone, changed_for, listed_get_or, Known, covered_for}
+use Rattle.protocols.proofs.Laws.Blind.Cover.{Undone, changed_for, listed_get_or, Known, cover_for}
 use Rattle.protocols.proofs.Laws.Blind.Miner.{SameAt, near_same, next_same, next_followed}
 use Rattle.protocols.proofs.Laws.Blind.Ring.{difference_blind}
 use Rattle.protocols.proofs.Laws.Blind.Bit.{bit_blind}
-use Rattle.protocols.proofs.Laws.Blind.Bits.{xored, xor_mixes, bits_blind}
+use Rattle.protocols.proofs.Laws.Blind.Bits.{xor_mix, xor_mixes, bits_blind}
 
 -- what looks the same to miner i between two rounds: its share, and the masked shares of the next round, its own and the one that it will receive
-record SameFolding (i : Miner) (h h' : Folding) : Type 0 where
+record SameFoldState (i : Miner) (h h' : FoldState) : Type 0 where
   p : SameAt i h.p h'.p
-  own_p : SameAt i (masked h.p h.q) (masked h'.p h'.q)
-  prev_p : SameAt (prev i) (masked h.p h.q) (masked h'.p h'.q)
+  own_p : SameAt i (masked_shares h.p h.q) (masked_shares h'.p h'.q)
+  prev_p : SameAt (prev i) (masked_shares h.p h.q) (masked_shares h'.p h'.q)
 
 -- shares p with a new mask q
-folding-same : (i : Miner) (p p' : Shares) (b b' : Tapes) → SameAt i p p' → Known i 1 xored (λ k. p) (λ k. p') b b'
-    → SameFolding i (record { p = p; q = words b 0 }) (record { p = p'; q = words b' 0 })
+folding-same : (i : Miner) (p p' : Shares) (b b' : Tapes) → SameAt i p p' → Known i 1 xor_mix (λ k. p) (λ k. p') b b'
+    → SameFoldState i (record { p = p; q = words b 0 }) (record { p = p'; q = words b' 0 })
 folding-same i p p' b b' e z = record { p = e; own_p = z.mixed_own 0 e; prev_p = z.mixed_prev 0 (omega arith) }
 
 module _ (n : ℕ) where
@@ -69,39 +69,39 @@ module _ (n : ℕ) where
 
   -- ---- the rounds
 
-  begin_for : (i : Miner) (o : Observer) → Sees o (miner i) → BlindFor m i begin (AreWords m) (SameShares o) (SameFolding i)
-  unfolding begin
-  begin_for i o e =
-      covered_for i 1 refl (xor_mixes (width n)) (λ p k. p) (λ p a k. a) λ p p' r b b' z.
+  first_masks_for : (i : Miner) (o : Observer) → Sees o (miner i) → BlindFor m i first_masks (SharesAreWords m) (SameShares o) (SameFoldState i)
+  unfolding first_masks
+  first_masks_for i o e =
+      cover_for i 1 refl (xor_mixes (width n)) (λ p k. p) (λ p a k. a) λ p p' r b b' z.
       (folding-same i _ _ b b' (r i e) z, next_same i _ _ (z.before 0))
 
-  begin-blind : (o : Observer) → Blind m o begin (AreWords m) (SameShares o) (Seen SameFolding o)
-  unfolding begin
-  begin-blind = blind_silent (λ p t. refl) begin_for
+  first_masks-blind : (o : Observer) → Blind m o first_masks (SharesAreWords m) (SameShares o) (Seen SameFoldState o)
+  unfolding first_masks
+  first_masks-blind = blind_silent (λ p t. refl) first_masks_for
 
   -- the shares that round k leaves
-  abbrev new_p : ℕ → Folding → Shares
-  new_p k h = let p = masked h.p h.q in each (λ i. fold_share (width n) k (at i p) (at (prev i) p))
+  abbrev new_p : ℕ → FoldState → Shares
+  new_p k h = let p = masked_shares h.p h.q in each (λ i. fold_share (width n) k (at i p) (at (prev i) p))
 
-  new_p_words : (k : ℕ) (h : Folding) → AreWords m (new_p k h)
+  new_p_words : (k : ℕ) (h : FoldState) → SharesAreWords m (new_p k h)
   new_p_words k h = elim [ one ↦ fold_share-lt (width n) k _ _ | two ↦ fold_share-lt (width n) k _ _ | three ↦ fold_share-lt (width n) k _ _ ]
 
-  fold_for : {Good : Folding → Type 0} (k : ℕ) (i : Miner) (o : Observer) → Sees o (miner i)
-      → BlindFor m i (fold n k) Good (Seen SameFolding o) (SameFolding i)
+  fold_for : {Good : FoldState → Type 0} (k : ℕ) (i : Miner) (o : Observer) → Sees o (miner i)
+      → BlindFor m i (fold n k) Good (Seen SameFoldState o) (SameFoldState i)
   unfolding fold
   fold_for k i o e =
-      covered_for i 1 refl (xor_mixes (width n)) (λ h l. new_p k h) (λ h a l. new_p_words k h) λ h h' r b b' z.
+      cover_for i 1 refl (xor_mixes (width n)) (λ h l. new_p k h) (λ h a l. new_p_words k h) λ h h' r b b' z.
       let y = r i e in
       let ep = near_same (λ p p' v v'. fold_share (width n) k p p') i _ _ _ _ y.own_p y.prev_p y.own_p y.prev_p in
       (folding-same i _ _ b b' ep z, next_followed i _ _ _ _ y.prev_p (next_same i _ _ (z.before 0)))
 
-  fold-blind : {Good : Folding → Type 0} (k : ℕ) (o : Observer) → Blind m o (fold n k) Good (Seen SameFolding o) (Seen SameFolding o)
+  fold-blind : {Good : FoldState → Type 0} (k : ℕ) (o : Observer) → Blind m o (fold n k) Good (Seen SameFoldState o) (Seen SameFoldState o)
   unfolding fold
   fold-blind k = blind_silent (λ h t. refl) (fold_for k)
 
-  folds-blind : {Good : Operands → Type 0} (k : ℕ) (o : Observer) → Blind m o (folds n k) Good (SameOperands o) (Seen SameFolding o)
+  folds-blind : {Good : Operands → Type 0} (k : ℕ) (o : Observer) → Blind m o (folds n k) Good (SameOperands o) (Seen SameFoldState o)
   unfolding folds compare
-  folds-blind zero o = blind_then (compare-blind o) (λ x a t c. compared-words m pos x t) (begin-blind o)
+  folds-blind zero o = blind_then (compare-blind o) (λ x a t c. comparison-words m pos x t) (first_masks-blind o)
   folds-blind (suc k) o = blind_then_any (folds-blind k o) (fold-blind k o)
 
   -- ---- equal and below

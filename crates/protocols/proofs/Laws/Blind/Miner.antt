@@ -1,7 +1,7 @@
 -- What one miner has of shares and of received lists, in two runs.
 use Rattle.std.proofs.Common.{◌≡◌, ℕ, zero, suc, List, [], ◌∷◌, refl, ap, ap₂}
 use Rattle.protocols.specs.declared.shares.Shares.{Shares}
-use Rattle.protocols.specs.Shares.{Miner, one, two, three, prev, at, each, shares, AreWords}
+use Rattle.protocols.specs.Shares.{Miner, one, two, three, prev, at, each, shares, SharesAreWords}
 use Rattle.protocols.specs.Place.{Lists, miner, list, to_next, to_two_three, ◌followed_by◌}
 
 -- ---- shares
@@ -49,6 +49,6 @@ abbrev pub pick : ℕ → Shares → Shares → Shares
 pick zero a b = a
 pick (suc k) a b = b
 
-pub pick_words : {m : ℕ} (k : ℕ) (a b : Shares) → AreWords m a → AreWords m b → AreWords m (pick k a b)
+pub pick_words : {m : ℕ} (k : ℕ) (a b : Shares) → SharesAreWords m a → SharesAreWords m b → SharesAreWords m (pick k a b)
 pick_words zero a b ha hb = ha
 pick_words (suc k) a b ha hb = hb

@@ -1,14 +1,9 @@
--- `protocols::bits::bits` meets its contract: the controller receives nothing.
-use Rattle.protocols.specs.Place.{controller}
-use Rattle.protocols.specs.Lent.{tapes_of, lists_of}
-use Rattle.protocols.specs.Bits.{bits}
-use Rattle.protocols.proofs.Laws.Deliveries.{controller_kept}
-use Rattle.protocols.proofs.Laws.Counts.{table_at_32}
+-- `protocols::bits::bits` meets what `deliver` requires: its row.
+use Rattle.protocols.proofs.Laws.Counts.{rows_at_32}
 use Rattle.protocols.proofs.bits.bits.Goals as goal
 
-pub returns-clause-done : goal.returns-clause-done
-returns-clause-done c =
-    let a = c.args in
-    let l = lists_of a.lists.now in
-    controller_kept (bits 5) a.u a.place (tapes_of a.tapes.now) l.one l.two l.three l.controller _
-    (λ v. table_at_32.bits_row.long a.u v controller) c.bits_on.ensures
+pub deliver-requires-clause-draws : goal.deliver-requires-clause-draws
+deliver-requires-clause-draws c = rows_at_32.bits_row.drawn
+
+pub deliver-requires-clause-receives : goal.deliver-requires-clause-receives
+deliver-requires-clause-receives c = rows_at_32.bits_row.long

@@ -1,7 +1,7 @@
 -- `session::contents::is_chained` meets its contract.
 use Rattle.std.proofs.Common.{◌*◌, ◌/◌, length, ◌∙◌, arith}
 use Rattle.std.proofs.lemmas.List.{drop_all}
-use Rattle.session.specs.Contents.{chained}
+use Rattle.session.specs.Contents.{is_chained}
 use Rattle.session.proofs.Laws.Contents.{chain_turn, chain_broken}
 use Rattle.session.proofs.contents.is_chained.Goals as goal
 
@@ -17,5 +17,5 @@ loop-start-preserved c =
     (chain_turn l (length l / 2) _ _ _ (omega arith) (omega arith) (rw c.as_chunks.ensures.front at c.if-start-at.false) ∙ c.loop-start.invariant)
 
 pub returns : goal.returns
-unfolding chained
+unfolding is_chained
 returns c = rw (drop_all (2 * c.loop-start.start-index) c.args.contents.now (omega arith)) at c.loop-start.invariant

@@ -11,5 +11,5 @@ loop-i-preserved c =
 pub returns : goal.returns
 returns c =
     let e : c.loop-i.i ≡ length c.args.file.now / 16 = omega arith in
-    rw (c.put.ensures, c.as_chunks.ensures.front_len)
+    rw (c.put_words.ensures, c.as_chunks.ensures.front_len)
     (rest_turn c.args.words.now c.args.file.now c.loop-i.words _ c.requires c.as_chunks.ensures.back (rw e at c.loop-i.invariant))

@@ -1,11 +1,11 @@
 -- The lines of the commands so far are put; those left are of the commands and the shares left.
 use Rattle.std.proofs.Common.{◌*◌, drop}
 use Rattle.protocols.specs.Word.{modulus}
-use Rattle.session.proofs.Laws.OpenLines.{lines_of}
-use Rattle.session.proofs.Laws.Puts.{Begun}
+use Rattle.session.proofs.Laws.OpenLines.{lines_of_threes}
+use Rattle.session.proofs.Laws.Puts.{PartAdded}
 use Rattle.session.proofs.text.Text.put_opens.Given as goal
 
 abbrev pub invariant-loop-code : goal.invariant-loop-code
 invariant-loop-code l =
-    Begun l.fn.self (lines_of (modulus 5) l.commands l.initial.opened.rest.now) (lines_of (modulus 5) (drop l.code-index l.commands) l.opened.rest.now)
+    PartAdded l.fn.self (lines_of_threes (modulus 5) l.commands l.initial.opened.rest.now) (lines_of_threes (modulus 5) (drop l.code-index l.commands) l.opened.rest.now)
     (47 * l.code-index) l.self

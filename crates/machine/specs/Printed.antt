@@ -1,0 +1,39 @@
+-- What is printed of a refusal and of a kind.
+use Rattle.std.specs.Prelude.{ℕ, List, ◌++◌, codes, decimal}
+use Rattle.protocols.specs.declared.outcome.Shortage.TheVariants as shortage
+use Rattle.protocols.specs.Printed as protocols
+use Rattle.machine.specs.declared.kind.Kind.{Kind}
+use Rattle.machine.specs.declared.kind.Kind.TheVariants.{RingValue, BitWord}
+use Rattle.machine.specs.declared.refusal.Refusal.{Refusal}
+use Rattle.machine.specs.declared.refusal.Refusal.TheVariants.{NotWhole, ContentsBroken, OverLimit, LentUnsoundly}
+use Rattle.machine.specs.declared.refusal.Refusal.TheVariants.{UnknownCode, FieldNotZero, HandleNotFilled}
+use Rattle.machine.specs.declared.refusal.Refusal.TheVariants.{WrongKind, PositionOutside, TablesFull, InputsUsed}
+use Rattle.machine.specs.declared.refusal.Refusal.TheVariants.{TapeSpent, ListFull}
+use Rattle.machine.specs.Refusal.{refusal_number}
+
+-- what is wrong, and what mends it
+abbrev pub sentence : Refusal → List ℕ
+sentence NotWhole = codes "the file is under 48 bytes or ends within a word; send the whole file, 4 bytes a word"
+sentence ContentsBroken =
+    codes "the bodies do not follow one another to the file's end; correct their starts and counts"
+sentence OverLimit =
+    codes "a body is over its limit or the last command is incomplete; shorten the body or complete the command"
+sentence LentUnsoundly =
+    codes "the lent lists do not fit; check their lengths, the kinds, the place record and a session's words"
+sentence UnknownCode = codes "no command has this code; take one from the table of commands"
+sentence FieldNotZero = codes "a field that the command does not use is not 0; set it to 0"
+sentence HandleNotFilled = codes "a handle is 0 or not filled; name one that an earlier command filled"
+sentence WrongKind = codes "a handle holds the wrong kind of value; make a bit word by bits, or a ring value by bit"
+sentence PositionOutside = codes "a bit position is past the highest bit; take one from 0 to 31"
+sentence TablesFull = codes "the share tables have no entry left for the new value; lend longer tables and kinds"
+sentence InputsUsed = codes "all inputs are used; lend one for each store"
+sentence TapeSpent = protocols.shortage shortage.TapeSpent
+sentence ListFull = protocols.shortage shortage.ListFull
+
+-- `refused R: ` and the sentence
+abbrev pub refusal : Refusal → List ℕ
+refusal r = codes "refused " ++ decimal (refusal_number r) ++ codes ": " ++ sentence r
+
+abbrev pub kind : Kind → List ℕ
+kind RingValue = codes "ring value"
+kind BitWord = codes "bit word"

@@ -1,0 +1,20 @@
+-- The comparison and the first masks of Equal in one, and how far each list has come, as the code has it.
+use Rattle.std.specs.Prelude.{ℕ, ◌+◌, ◌*◌}
+use Rattle.protocols.specs.declared.shares.Shares.{Shares}
+use Rattle.protocols.specs.declared.place.Received.{Received}
+use Rattle.protocols.specs.declared.equal.FoldState.{FoldState}
+use Rattle.protocols.specs.Shares.{Operands}
+use Rattle.protocols.specs.Place.{Tapes, Lists, to_next, ◌followed_by◌}
+use Rattle.protocols.specs.Counts.{received_counts}
+use Rattle.protocols.specs.Equal.{compare}
+
+-- both together, on the word b of miner 1 and the masks q
+abbrev pub state_before_rounds : ℕ → Operands → Tapes → Shares → FoldState
+state_before_rounds n x b q = record { p = (compare n).result x b; q = q }
+
+abbrev pub sent_before_rounds : ℕ → Operands → Tapes → Shares → Lists
+sent_before_rounds n x b q = (compare n).received x b followed_by to_next q
+
+-- how many words each list has received before round k
+abbrev pub received_before : ℕ → Received
+received_before k = received_counts (1 + 2 * k) (2 + 2 * k) (2 + 2 * k) 0

@@ -1,0 +1,4 @@
+-- What only contracts inside the crate speak of.
+pub mod Bodies
+pub mod Writing
+pub mod Report
