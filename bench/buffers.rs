@@ -40,7 +40,7 @@ pub struct Buffers {
 }
 
 impl Buffers {
-    /// Lists of these lengths, each made by the caller's rule; no inputs and no tapes.
+    /// Lists of these lengths, each made by the caller's function; no inputs and no tapes.
     pub fn lend(lengths: &Lengths, list: impl FnMut(usize) -> Vec<u32>) -> Buffers {
         let lent = lengths.lend(list);
         Buffers {
@@ -54,7 +54,7 @@ impl Buffers {
         }
     }
 
-    /// All lists, each as it is lent.
+    /// All lists in the form in which they are lent.
     #[inline(always)]
     pub fn lent(&mut self) -> Lent<'_> {
         let [share1, share2, share3] = self.shares.each_mut().map(|list| (&mut list[..]).into());
@@ -86,7 +86,7 @@ impl Buffers {
     }
 }
 
-/// Lists that are lent to many calls.
+/// Lists lent once for many calls.
 pub struct Lent<'l> {
     words: &'l mut [u32],
     inputs: &'l [u32],

@@ -12,7 +12,7 @@ use std::process::exit;
 const SEQUENCES: u64 = 400;
 const COMMANDS: usize = 60;
 const SESSIONS: u64 = 4_000;
-/// Fewest answers of each number, so that no refusal stays untried.
+/// Fewest answers of each number, so that every refusal is tried.
 const FEWEST: usize = 20;
 
 /// Exits with a message at the first difference.
@@ -26,7 +26,7 @@ pub fn check() {
     workloads::check();
 }
 
-/// Both sides on copies of the lists; answers what both answered and leave.
+/// Calls both sides on copies of the lists; gives the common answer and lists.
 fn both<T: Debug + PartialEq>(
     what: &str,
     before: &Buffers,
@@ -54,7 +54,7 @@ fn fail(what: &str, difference: &str) -> ! {
     exit(1);
 }
 
-/// How often each number was answered: 0 and from the first one on, all must occur.
+/// How often each number was answered: 0 and all numbers from `first` on have to occur.
 fn report(what: &str, numbers: &[usize; 14], first: usize) {
     let total: usize = numbers.iter().sum();
     let answered: Vec<String> = (0..14)

@@ -5,7 +5,7 @@ import os
 
 
 def read(folder, name):
-    """The rows of a CSV file, none if it was not written."""
+    """The rows of a CSV file, none if there is no file."""
     path = os.path.join(folder, name)
     if not os.path.exists(path):
         return []
@@ -14,7 +14,7 @@ def read(folder, name):
 
 
 def instructions(folder):
-    """Instructions per call, by workload and side: two run lengths apart, so that the start-up falls out."""
+    """Instructions per call, by workload and side: the difference of two runs, so that starting up does not count."""
     figures = {}
     for row in read(folder, "instructions.csv"):
         more = int(row["instructions_of_twice_the_calls"]) - int(row["instructions"])

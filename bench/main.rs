@@ -1,4 +1,4 @@
-//! The engine beside its plain twin: the same answers, and what both cost.
+//! The engine beside its twin: the same answers, and the cost of both.
 //!
 //! `bench check` compares them; `bench list` names the workloads, each with a number of calls;
 //! `bench count WORKLOAD SIDE CALLS` runs one of them; `bench time` prints times as CSV.
@@ -12,7 +12,7 @@ mod time;
 mod twin;
 mod workload;
 
-/// The tests' generator of sessions, with what it needs.
+/// The generator of sessions of the tests.
 #[path = "../tests/sessions"]
 #[allow(dead_code)]
 mod sessions {
@@ -47,7 +47,7 @@ fn list() {
     }
 }
 
-/// Runs one workload and nothing else, for an instruction counter to look at.
+/// Runs one workload and nothing else, for an instruction counter.
 fn count(name: &str, side: &str, calls: &str) {
     let side = Side::named(side).expect("engine or twin");
     let calls = calls.parse().expect("a number of calls");

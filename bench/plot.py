@@ -10,7 +10,7 @@ COMMANDS = [1, 2, 4, 8, 16, 32, 64, 128]
 WIDTH, HEIGHT = 400, 300
 LEFT, TOP, GAP, BOTTOM = 86, 96, 90, 60
 
-# Colours that are readable on both backgrounds; the frame's follow the reader's scheme.
+# Colours that are readable on a light and a dark background; frame and text follow the reader's scheme.
 STYLE = """
 svg { font: 13px system-ui, sans-serif; background: #ffffff; }
 text { fill: #24292f; }

@@ -1,4 +1,4 @@
-//! Times, engine and twin in turn, so that both meet the same disturbances.
+//! Times, engine and twin in turn, so that disturbances meet both.
 
 use crate::buffers::{Side, SIDES};
 use crate::workload::{self, Workload};

@@ -1,8 +1,8 @@
-//! The plain twin: the engine's three calls in ordinary safe Rust, written for speed.
+//! The twin: the engine's three calls in ordinary safe Rust, written for speed from
+//! docs/SPECIFICATION.md.
 //!
-//! Same arguments, same checks, same draws and same received words as the engine, from document 01.
-//! Nothing is allocated; a command's draws and received words are arrays of the row's lengths, so
-//! that the checks of numbers 12 and 13 are the only ones.
+//! It allocates nothing. A command's draws and received words are arrays of the lengths of its row,
+//! so that the checks of numbers 12 and 13 are the only ones.
 
 #![forbid(unsafe_code)]
 
@@ -25,12 +25,12 @@ pub use text::pool;
 /// One share for each of the miners 1 to 3.
 type Shares = [u32; 3];
 
-/// What each miner has from the one before it: before miner 1 comes miner 3.
+/// For each miner the previous miner's word. Specification: Parties.
 fn previous([one, two, three]: Shares) -> Shares {
     [three, one, two]
 }
 
-/// Share by share.
+/// Combines the shares of each miner.
 fn each(u: Shares, v: Shares, combine: impl Fn(u32, u32) -> u32) -> Shares {
     [
         combine(u[0], v[0]),

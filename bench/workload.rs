@@ -13,8 +13,8 @@ pub enum Call {
     Pool(Vec<u8>),
 }
 
-/// One call with its lists. Every call leaves the same words, so that it can be repeated as it
-/// stands: the lists are not cleared between calls.
+/// One call with its lists. Every call leaves the same words, so it is repeated without clearing the
+/// lists.
 pub struct Workload {
     /// Group, label and size, with colons between.
     pub name: String,
@@ -38,7 +38,7 @@ impl Workload {
         }
     }
 
-    /// So many calls to one side.
+    /// Makes so many calls to one side.
     pub fn run(&mut self, side: Side, calls: usize) {
         match side {
             Side::Engine => self.repeat(calls, Side::Engine),
@@ -46,7 +46,7 @@ impl Workload {
         }
     }
 
-    /// Inlined with the side known, so that both sides are called directly. The lists are lent once for all calls.
+    /// Inlined for each side, so that both are called directly. The lists are lent once for all calls.
     #[inline(always)]
     fn repeat(&mut self, calls: usize, side: Side) {
         let mut lent = self.buffers.lent();

@@ -1,25 +1,28 @@
 #!/usr/bin/env python3
-"""Calls the engine from Python: a worked session, command by command and as a file, and an example session.
+"""Calls the engine from Python: a worked session, command by command and as a file, then an example session.
 
-include/dinglefork.h says what each call is lent, writes and answers. The tapes here are fixed: never use such
-tapes for true figures.
+    tools/build dinglefork
+    python3 examples/pooled.py
+
+include/dinglefork.h says what each call is lent, writes and answers. The tapes here are fixed: never use fixed
+tapes for real figures.
 """
 import struct
-import subprocess
 import sys
 from ctypes import CDLL, POINTER, Structure, c_char, c_char_p, c_size_t, c_uint32
 from pathlib import Path
 
 ROOT = Path(__file__).resolve().parent.parent
-ARCHIVE = ROOT / "target/staticlib/libdinglefork.a"
-SHARED = ROOT / "target/libdinglefork.so"
+SHARED = ROOT / "target/shared/libdinglefork.so"
 
-# Room that suffices for every session.
-WORDS, TEXT, ENTRIES, RECEIVED = 7692, 8192, 128, 3584
+# The header's names.
+VERSION = 100
+WORDS, TEXT, ENTRIES, RECEIVED, REFUSAL_TEXT = 7692, 8192, 128, 3584, 128
+STORE, MULTIPLY, OPEN = 1, 6, 11
 
 
 class Place(Structure):
-    """Filled handles, inputs used, words drawn (provider, miners), words received (miners, controller)."""
+    """How many handles and inputs are used, words drawn by provider and miners, received by miners and controller."""
 
     _fields_ = [
         ("handles", c_size_t),
@@ -30,7 +33,7 @@ class Place(Structure):
 
 
 class Answer(Structure):
-    """0 or the number of the refusal, the place record, and the opened word."""
+    """0 or a refusal's number, the place record for the next command, what an open gives."""
 
     _fields_ = [("number", c_uint32), ("place", Place), ("opened", c_uint32)]
 
@@ -54,25 +57,27 @@ class Tapes(Structure):
 
 
 class Lists(Structure):
-    """The lists of words received by miners 1 to 3 and the controller."""
+    """The received lists, miners 1 to 3 first and then the controller."""
 
     _fields_ = [("received1", List), ("received2", List), ("received3", List), ("controller", List)]
 
 
 def load():
-    """The library as a shared object, linked from the archive where that is newer."""
-    if not ARCHIVE.exists():
-        sys.exit(f"{ARCHIVE} is missing: run `tools/build dinglefork` first")
-    if not SHARED.exists() or SHARED.stat().st_mtime < ARCHIVE.stat().st_mtime:
-        whole = ["-Wl,--whole-archive", str(ARCHIVE), "-Wl,--no-whole-archive"]
-        subprocess.run(["cc", "-shared", *whole, "-o", str(SHARED)], check=True)
+    """The library, of the version that these declarations are for."""
+    if not SHARED.exists():
+        sys.exit(f"{SHARED} is missing: run `tools/build dinglefork` first")
     library = CDLL(str(SHARED))
+    library.dinglefork_version.restype = c_uint32
+    if library.dinglefork_version() != VERSION:
+        sys.exit("the library is not of this version")
     place, tables, tapes, lists = map(POINTER, (Place, Tables, Tapes, Lists))
     words = [POINTER(c_uint32), c_size_t]
     library.dinglefork_command.argtypes = [c_uint32] * 3 + [place, tables, *words, tapes, lists]
     library.dinglefork_command.restype = Answer
     library.dinglefork_pool.argtypes = [c_char_p, c_size_t, *words, tables, lists, POINTER(c_char)]
     library.dinglefork_pool.restype = c_size_t
+    library.dinglefork_refusal.argtypes = [c_uint32, POINTER(c_char)]
+    library.dinglefork_refusal.restype = c_size_t
     return library
 
 
@@ -89,7 +94,7 @@ def lent(words):
 
 
 def room():
-    """Tables and received lists that suffice for every session."""
+    """Tables and received lists that are enough for every session."""
     return Tables(*(lent(zeros(ENTRIES)) for _ in range(4))), Lists(*(lent(zeros(RECEIVED)) for _ in range(4)))
 
 
@@ -101,12 +106,21 @@ def run_commands(library, commands, inputs, tapes):
     inputs, place = words_of(inputs), Place()
     for command in commands:
         answer = library.dinglefork_command(*command, place, tables, inputs, len(inputs), tapes, lists)
-        if answer.number != 0:
-            print(*command, "refused", answer.number)
-            return
         place = answer.place
-        print(*command, *(("opened", answer.opened) if command[0] == 11 else ("handle", place.handles)))
+        if answer.number != 0:
+            print(*command, refusal(library, answer.number))
+        elif command[0] == OPEN:
+            print(*command, "opened", answer.opened)
+        else:
+            print(*command, "handle", place.handles)
     print("miner 1 received", *lists.received1.words[: place.received[0]])
+
+
+def refusal(library, number):
+    """What a refusal says."""
+    out = (c_char * REFUSAL_TEXT)()
+    library.dinglefork_refusal(number, out)
+    return out.value.decode()
 
 
 def pool(library, file):
@@ -117,7 +131,7 @@ def pool(library, file):
 
 
 def sheet(commands, inputs, tapes):
-    """The session file: six starts and counts, then the bodies; words of four bytes, lowest first."""
+    """The session file: each body's start and count, then the bodies, each word as four bytes, lowest first."""
     bodies = [[word for command in commands for word in command], inputs, *tapes]
     contents, start = [], 12
     for body in bodies:
@@ -129,12 +143,15 @@ def sheet(commands, inputs, tapes):
 
 def main():
     library = load()
+    print("dinglefork {}.{}.{}".format(VERSION // 10000, VERSION // 100 % 100, VERSION % 100))
     # 7 and 5 are stored and multiplied, and the product is opened.
-    commands = [(1, 0, 0), (1, 0, 0), (6, 1, 2), (11, 3, 0)]
+    commands = [(STORE, 0, 0), (STORE, 0, 0), (MULTIPLY, 1, 2), (OPEN, 3, 0)]
+    # No handle 9 is filled, so that this one is refused and changes nothing.
+    wrong = (MULTIPLY, 1, 9)
     inputs = [7, 5]
     tapes = [[1, 2, 3, 4], [10, 20, 70], [30, 40, 80], [50, 60, 90]]
     print("worked session, command by command:")
-    run_commands(library, commands, inputs, tapes)
+    run_commands(library, [*commands, wrong], inputs, tapes)
     print("worked session, as a file:")
     print(pool(library, sheet(commands, inputs, tapes)), end="")
     print("stumbles_times_hours:")

@@ -1,19 +1,20 @@
-"""Counts, over contents of the tapes, how often an observer gets each record: blindness checked on small words.
+"""Counts how often each record of an observer comes up over contents of the tapes: blindness checked on small words.
 
-Blindness pairs contents of tapes off so that paired runs, on two input lists, give the observer the same record. This can be
-done exactly when each record comes up equally often on both lists. Contents of 32-bit words are too many to go through, so
-protocol_vectors.py and command_cases.py, which are checked against the engine at 32 bits, run here on words of 2^n bits:
-n = 0 has no rounds in bits and equal, n = 1 has one, n = 2 has two. A line for each check; the status is 1 if one fails.
+The map that blindness needs (Specification: Blindness) exists exactly when each record comes up equally often on both input
+lists. Contents of 32-bit words are too many to go through, so protocol_vectors.py and command_cases.py, which are checked
+against the engine at 32 bits, run here on words of 2^n bits: bits and equal have no rounds at n = 0, one at n = 1, two at
+n = 2. Prints a line for each check; the status is 1 if one fails.
 
-A miner's own tape is held at a sampled content, and the other tapes go through all of theirs; for the controller all four
+A miner's own tape is fixed at a sampled content, and the other tapes go through all contents; for the controller all four
 do. A command reads shares, inputs and words not drawn yet, so runs that agree so far in the record and in all shares go on
 alike and are counted together. Where there are more than MANY contents, words are held at sampled values, as few as needed:
 
-- First what nobody uses: the masks drawn after the last round, and all but the lowest bit of a word drawn as a random bit.
-  The record either shows such a word as it is or doesn't depend on it.
+- First words that nobody uses: the masks drawn after the last round, and all but the lowest bit of a word drawn as a random
+  bit. The record either shows the word as it is or does not depend on it.
 - Then words that the observer is sent as they were drawn. Its record shows them, so runs on other values give other
   records: the counts agree as a whole exactly when they agree for each value.
-- Last, for the same reason, the shares that the provider sends miner 3. They aren't drawn: runs with others are left out.
+- Last, for the same reason, the shares that the provider sends to miner 3. They are not drawn: runs with others are left
+  out.
 """
 
 import inspect
@@ -32,7 +33,7 @@ MANY, SAMPLES = 2**12, words_from(2010)
 CODES = {name: [code] for code, (name, *_) in ROWS.items()} | {"": []}
 OBSERVERS = {1: "miner 1", 2: "miner 2", 3: "miner 3", CONTROLLER: "controller"}
 # Sessions: observers, n, commands, input lists. 'open 1' is 11, 1, 0 and accepted, 'open 9: 7' refused with number 7. Where
-# the controller is an observer, the first two lists lead to the same opened words, and a third one to others.
+# the controller is an observer, the first two lists give the same opened words, and a third one gives others.
 ALL, NOT_3 = tuple(OBSERVERS), (1, 2)
 REFUSED = "store, 13 0 0: 5, store 0 7: 6, open 9: 7, times constant 1 0, open 2, open 2, store: 11, multiply 1 1: 12, "
 SUMS = "store, times constant 1 0, equal 1 2, multiply 1 1, multiply 1 1, add 3 4, add 3 5, open 6, open 7"
@@ -58,7 +59,8 @@ SESSIONS = {
     "square": (MINERS, 2, "store, multiply 1 1", [[3], [10]]),
     "two rounds": (NOT_3, 2, "store, times constant 1 2, equal 1 2", [[0], [6]]),
 }
-# One thing wrong, the shares still right: text of the class Run and what it becomes, a session, an observer who can tell.
+# One thing wrong, the shares still right: text of the class Run and what it becomes, a session, an observer whose counts
+# differ.
 BROKEN = {
     "store masks with one word": ("2: s2, 3: (value - s1 - s2)", "2: s1, 3: (value - s1 - s1)", "store", 3),
     "open sends the stored shares": ("shares[1], shares[2], shares[3]", "s[1], s[2], s[3]", "sums", CONTROLLER),
@@ -69,11 +71,10 @@ BROKEN = {
     "equal masks with own q only": ("*(p[i] for", "*(p[i] ^ masks[0][PREVIOUS[i]] for", "equal", 3),
     "equal uses masks again": ("[p], [q] = self.masked([p], [q])", "[p], _ = self.masked([p], [q])", "two rounds", 2),
 }
-# What parties apart cannot do: make a share of another party's, send words before they can be made, or let a share that
-# the sender doesn't have say who is sent a word, or when. Blind all the same: the counts agree, as on the right
-# protocols. Of each: pairs of text, each as in BROKEN; a session; and the values that the words which nobody uses go
-# through. There are such values where one of these words is sent in another's place; elsewhere the words are held.
-# (Each is a must-fail edit of the crate `protocols` too.)
+# What parties apart cannot do (Specification: Parties apart): use a share of another party, send words before they can be
+# computed, or let a share that the sender does not have decide who is sent a word, or when. The counts agree all the same,
+# as on the right protocols. Of each: pairs of text, as in BROKEN; a session; the values that words which nobody uses go
+# through, where one of them is sent instead of another. The crate `protocols` has a must-fail edit for each.
 NOT_APART = {
     "reshare adds miner 3's new share to miner 2's": (
         [
@@ -131,8 +132,8 @@ def parsed(text):
 
 
 def fates(code, tape):
-    """What becomes of each word that the command draws from the tape, by 01's steps: 1 to 3 are the miners who are sent it
-    as it is, 0 is nobody, - is nobody who uses it, b is a random bit for nobody, c is a random bit for miner 2."""
+    """Who is sent each word that the command draws from the tape, as it is: miner 1 to 3, nobody (0), or a miner who does
+    not use it (-); a random bit is sent to nobody (b) or to miner 2 (c)."""
     if tape == PROVIDER:
         return "12" if code == 1 else ""
     to, masks = str(NEXT[tape]), {8: 2, 10: 1, 12: 2}.get(code, 0)
@@ -143,8 +144,8 @@ def fates(code, tape):
 
 
 def planned(commands, observer, tapes, unused):
-    """The words of other tapes than the observer's, with the values that they go through; by step, the shares held.
-    Words that nobody uses go through the values `unused`, all through the same ones, if there are any."""
+    """The words of the tapes but the observer's, with the values that they go through; by step, the shares held.
+    Words that nobody uses go through the values `unused`, if there are any."""
     words, shares, drawn = [], {}, [0] * 4
     for step, (code, _, _, number) in enumerate(commands):
         for tape in {*range(4)} - {observer}:
@@ -164,7 +165,7 @@ def planned(commands, observer, tapes, unused):
 
 
 def going_on(states, command, number, words, share):
-    """Each state (machine, answers so far, number of runs) goes on with the command, on all contents of its words."""
+    """Each state (machine, answers so far, number of runs) after the command, on all contents of its drawn words."""
     for machine, answers, times in states:
         for values in itertools.product(*(word.values for word in words)):
             after = type(machine)(machine.lists, machine.place) if words else machine  # a copy for each content
@@ -177,7 +178,7 @@ def going_on(states, command, number, words, share):
 
 
 def record(observer, machine, answers):
-    """An observer's record, the received words first."""
+    """An observer's record, the received words first. Specification: Records."""
     received = tuple(machine.lists[LISTS[observer - 1]][: machine.place[LISTS[observer - 1]]])
     answered = tuple(answer[:2] for answer in answers)
     if observer == CONTROLLER:
@@ -239,7 +240,7 @@ def changed(pairs):
 
 
 def not_apart():
-    """The same for the protocols that parties apart cannot do, for each observer of the session."""
+    """The same for what parties apart cannot do, for each observer of the session."""
     for what, (pairs, name, unused) in NOT_APART.items():
         for observer in SESSIONS[name][0]:
             (one, other, *_), held = counted(name, observer, changed(pairs), unused)

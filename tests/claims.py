@@ -1,9 +1,9 @@
 #!/usr/bin/env python3
-"""Each claim of specs/ is the contract of a function of src/promises.rt, and each of these functions promises a claim:
-so none can be lost without the gate's notice. And what the claims say is what was agreed: tests/claims.sums has the
-checksum of each file that states one, or that states what one asks or speaks of, so that a premise that comes in there
-is seen. Takes nothing, prints what is missing and fails, or says how many claims there are; `--agree` writes the
-checksums anew, which is for whoever has read what a changed file claims."""
+"""Checks that each claim of specs/ is the contract of a function of src/promises.rt, and that each of these functions
+promises a claim, so that none is lost. And that the claims say what was agreed: tests/claims.sums has a checksum of each
+file that states a claim, or one of the definitions that claims are made of, so that a new premise is seen. Prints what
+is missing and fails, or prints how many claims there are. `--agree` writes the checksums anew: only for someone who has
+read what the changed files claim."""
 import hashlib
 import pathlib
 import re
@@ -12,12 +12,13 @@ import sys
 CRATES = ['protocols', 'machine', 'session']
 TOP = pathlib.Path(__file__).resolve().parent.parent / 'crates'
 SUMS = pathlib.Path(__file__).resolve().parent / 'claims.sums'
-# What claims are made of, beside the engine itself, which the contracts hold to the code.
+# The definitions that claims are made of, besides those of the engine, which contracts equate with the code.
 PARTS = [
     'protocols/specs/Shares.antt', 'protocols/specs/Blind.antt', 'protocols/specs/Contents.antt',
     'protocols/specs/Counts.antt', 'protocols/specs/Parties.antt', 'protocols/specs/Own.antt',
     'protocols/specs/Alone.antt', 'machine/specs/Lent.antt', 'machine/specs/Pairing.antt',
     'machine/specs/Records.antt', 'machine/specs/Refusals.antt', 'session/specs/Refusals.antt',
+    'pool/specs/Arguments.antt',
 ]
 MARKER = re.compile(r'\s*-- promised by `(\w+)`: \S')
 STATEMENT = re.compile(r'\s*(?:pub record|pub data|(?:abbrev|unfoldable) pub) (\S+)')
@@ -28,7 +29,7 @@ def without_comments(text, sign):
 
 
 def claims_of(path, say):
-    """The claims of a file of specs/: for each the function that is to promise it, and its statement's name."""
+    """The claims of a file of specs/: the function that has to promise each, and the name of its statement."""
     lines, claims = path.read_text(encoding='utf8').split('\n'), []
     for at, line in enumerate(lines):
         marker = MARKER.match(line)
@@ -49,7 +50,7 @@ def claims_of(path, say):
 
 
 def braced(text, at):
-    """Where the braces that open at this place are closed."""
+    """Where the brace that opens here is closed."""
     depth = 0
     for i in range(at, len(text)):
         depth += (text[i] == '{') - (text[i] == '}')
@@ -59,7 +60,7 @@ def braced(text, at):
 
 
 def promises_of(text):
-    """The public functions: parameters, clauses (each with its word, as `ensures`) and body."""
+    """The public functions: parameters, clauses (each with its keyword) and body."""
     found = {}
     for head in re.finditer(r'\bpub fn (\w+)[^(]*\(([^)]*)\)', text):
         at, clauses = head.end(), []
@@ -90,7 +91,7 @@ def check_promise(name, statement, promise, say):
 
 
 def check_cited(path, marked, say):
-    """Each statement without a marker is a part of another one."""
+    """Each statement without a marker has to be part of another one."""
     text = without_comments(path.read_text(encoding='utf8'), '--')
     starts = [m for m in re.finditer(r'^' + STATEMENT.pattern, text, re.M)]
     ends = [m.start() for m in starts[1:]] + [len(text)]
@@ -116,12 +117,12 @@ def check(crate):
             check_promise(name, statement, promises[name], say)
         else:
             say(f'src/promises.rt has no function `{name}`, which is to promise `{statement}`')
-    told = [name for name, _ in claims]
-    for name in sorted(set(told)):
-        if told.count(name) > 1:
+    promising = [name for name, _ in claims]
+    for name in sorted(set(promising)):
+        if promising.count(name) > 1:
             say(f'two claims are to be promised by `{name}`')
     for name in promises:
-        if name not in told:
+        if name not in promising:
             say(f'`{name}` of src/promises.rt promises no claim of specs/')
     for path in ('Claims.antt', 'Apart.antt'):
         check_cited(TOP / crate / 'specs' / path, [statement for _, statement in claims], say)
@@ -129,7 +130,7 @@ def check(crate):
 
 
 def checksums():
-    """Of the files that state claims or parts of them: of their words, without comments and layout."""
+    """Of the files that state claims or parts of them, without comments and layout."""
     specs = [path for crate in CRATES for path in (TOP / crate / 'specs').rglob('*.antt')]
     stating = [path for path in specs if MARKER.search(path.read_text(encoding='utf8'))]
     promising = [TOP / crate / 'src' / 'promises.rt' for crate in CRATES]
@@ -143,7 +144,7 @@ def checksums():
 def check_agreed():
     agreed = SUMS.read_text(encoding='utf8').splitlines() if SUMS.exists() else []
     now = checksums()
-    return [f'{line.split()[1]}: what it states is not what was agreed (tests/claims.sums); read it, and see --agree'
+    return [f'{line.split()[1]}: what it states is not what was agreed in tests/claims.sums; read it, then use --agree'
             for line in sorted(set(now) ^ set(agreed), key=lambda line: line.split()[1])]
 
 

@@ -1,15 +1,15 @@
-"""A second writing of the command machine, and the cases that it gives for the crate `machine`.
+"""The command machine, written a second time, and the cases that it gives for the crate `machine`.
 
-Written from document 01 alone ('Handles, tapes and places', 'The commands', 'When a call is turned down'), sharing no code
-with the crate. Below the commands stand the protocols of protocol_vectors.py, the second writing of 000, 001 and 01's steps.
-The program `crates/commands` reads the cases from its stdin, runs them on the proved library and has to write its stdout.
+Written from docs/SPECIFICATION.md (Specification: Lent lists; Table of commands; Accepted commands; Order of refusals), and
+sharing no code with the crate. The commands stand on protocol_vectors.py, the protocols written a second time. The program
+`crates/commands` reads the cases from its stdin, runs them on the proved library and has to write its stdout.
 
     python3 tests/command_cases.py            both files must be what this script makes, else the status is 1
     python3 tests/command_cases.py --write    writes both
 
-The reference tests each refusal by itself, so it knows every number that applies, and answers the lowest. A case says
-which numbers it is there for, and is held to that. Beside the shares the reference keeps 01's register machine, and holds
-the shares to its words.
+Each refusal is tested by itself, so every number that applies is known, and the lowest is answered. A case says which
+numbers it is there for, and is held to that. A register machine runs beside the shares, which have to combine to its words
+(Specification: Registers).
 """
 
 import functools
@@ -22,11 +22,11 @@ from protocol_vectors import COMMANDS, MINERS, RING, WIDTH, Run, words_from
 CRATE = pathlib.Path(__file__).resolve().parent.parent / "crates" / "commands"
 ROOM, LARGEST = 1024, 400000  # what the program holds: words in a list, or in inputs and tapes together; bytes of text
 LAST = RING - 1
-# What a field of a command is: nothing, a handle of kind 1 or of kind 2, any word, a bit position.
+# What a field of a command is: unused, a handle of kind 1 or of kind 2, any word, a bit position.
 UNUSED, VALUE, BITS, WORD, POSITION = "unused", "value", "bits", "word", "position"
 NONE = (0, 0, 0, 0)
-# 01's table: name, a, b, the new value's kind (0: none), words received by miners 1 to 3 and the controller, words drawn
-# by the provider and miners 1 to 3.
+# Name, a, b, the new value's kind (0: none), received words of miners 1 to 3 and the controller, drawn words of the
+# provider and miners 1 to 3. Specification: Table of commands.
 ROWS = {
     1: ("store", UNUSED, UNUSED, 1, (1, 1, 1, 0), (2, 0, 0, 0)),
     2: ("add", VALUE, VALUE, 1, NONE, NONE),
@@ -41,7 +41,7 @@ ROWS = {
     11: ("open", VALUE, UNUSED, 0, (1, 1, 1, 3), (0, 1, 1, 1)),
     12: ("below", VALUE, VALUE, 1, (22, 28, 28, 0), (0, 18, 12, 12)),
 }
-# The same table's new values, from the words of the handles, the field b and the input.
+# The new values of the same table, from the words of the handles, the field b and the input.
 PLAIN = {
     1: lambda a, b, field, given: given,
     2: lambda a, b, field, given: a + b,
@@ -62,12 +62,12 @@ INPUTS, TAPES = "inputs", ("provider", "tape1", "tape2", "tape3")
 LISTS = ("received1", "received2", "received3", "controller")
 TABLES = ("share1", "share2", "share3", "kinds")
 HANDLES, KINDS, READ = "handles", "kinds", (INPUTS, *TAPES)
-PLACES = (HANDLES, INPUTS, *TAPES, *LISTS)  # the place record, in the paper's order
+PLACES = (HANDLES, INPUTS, *TAPES, *LISTS)  # the place record
 
 
 @functools.cache
 def row(code, rounds):
-    """The table's row at words of 2^rounds bits: less what the rounds short of five would add."""
+    """The table's row at words of 2^rounds bits: without what the missing rounds would add."""
     *fixed, received, drawn = ROWS[code]
     added = ROUND.get(code, (NONE, NONE))
     return *fixed, *(tuple(n - (5 - rounds) * m for n, m in zip(*both)) for both in zip((received, drawn), added))
@@ -80,7 +80,7 @@ def combined(kind, shares):
 class Machine:
     """The lent lists, the place record and the registers."""
 
-    protocols = Run  # blindness_counts.py has some with a fault in them
+    protocols = Run  # blindness_counts.py puts in some that are wrong
 
     def __init__(self, lists, place):
         self.lists, self.place = {name: list(words) for name, words in lists.items()}, dict(place)
@@ -91,18 +91,18 @@ class Machine:
         return 1 <= handle <= self.place[HANDLES]
 
     def lent_badly(self):
-        """Number 4: lengths, places, kinds."""
+        """Number 4: lengths, place record, kinds."""
         lengths = [len(self.lists[name]) for name in TABLES]
         ends = {HANDLES: min(lengths), **{name: len(words) for name, words in self.lists.items()}}
         kinds = self.lists[KINDS][: self.place[HANDLES]]
         return len(set(lengths)) > 1 or any(self.place[p] > ends[p] for p in PLACES) or any(k not in (1, 2) for k in kinds)
 
     def short(self, names, need):
-        """Numbers 12 and 13. Beyond its end a list has 0 words left."""
+        """Numbers 12 and 13. Beyond its end a list has no words left."""
         return any(max(0, len(self.lists[name]) - self.place[name]) < n for name, n in zip(names, need))
 
     def applying(self, code, a, b):
-        """Every number that applies. A code that is none has no row, so 6 to 13 say nothing of it."""
+        """Every number that applies. A code that no command has has no row: 6 to 13 do not apply to it."""
         numbers = {4} if self.lent_badly() else set()
         if code not in ROWS:
             return numbers | {5}
@@ -129,7 +129,7 @@ class Machine:
         return {i: self.lists[name][handle - 1] for i, name in zip(MINERS, TABLES)}, self.registers[handle - 1]
 
     def accept(self, code, a, b):
-        """Does an accepted command, and answers the opened word."""
+        """Performs an accepted command, and answers the opened word."""
         name, form_a, form_b, kind, received, drawn = row(code, WIDTH.rounds)
         (u, word_a), (v, word_b) = self.operand(form_a, a), self.operand(form_b, b)
         given = self.lists[INPUTS][self.place[INPUTS]] if code == 1 else 0
@@ -195,7 +195,7 @@ CASES = []
 
 
 def keep(case, *numbers):
-    """Takes the case in. To its commands exactly these numbers apply: 0 for none, several as a set."""
+    """Adds the case. To its commands exactly these numbers apply: 0 for none, several as a set."""
     found = case.run()[1]
     assert found == [n if isinstance(n, set) else {n} - {0} for n in numbers], (case.name, found)
     CASES.append(case)
@@ -203,21 +203,21 @@ def keep(case, *numbers):
 
 
 def keep_lowest(case, *numbers):
-    """Takes the case in. Of the numbers that apply to its commands these are the lowest."""
+    """Adds the case. Of the numbers that apply to its commands these are the lowest."""
     found = [min(n, default=0) for n in case.run()[1]]
     assert found == list(numbers), (case.name, found)
     CASES.append(case)
 
 
 def own(name, count):
-    """Words that tell their list and their entry: 101, 102 .. in share1, 201 .. in share2. Kinds are 9, which is none."""
+    """Words that show their list and entry: 101, 102 .. in share1, 201 .. in share2. Kinds are 9, which is no kind."""
     order = (*TABLES[:3], *READ, *LISTS)
     return [9 if name == KINDS else 100 * order.index(name) + 101 + n for n in range(count)]
 
 
 def lend(name, commands, values=(), room=0, inputs=(), used=0, tapes=((),) * 4, drawn=NONE, received=NONE, space=NONE):
     """A case: filled entries (kind, shares) and `room` more; inputs after those used; tapes that go on with these words
-    after the ones drawn; received lists with `space` words after those received. What the case does not give is `own`."""
+    after the ones drawn; received lists with `space` words after those received. All other words are `own`."""
     lists = {INPUTS: own(INPUTS, used) + list(inputs)}
     lists |= {tape: own(tape, n) + list(words) for tape, words, n in zip(TAPES, tapes, drawn)}
     lists |= {name: own(name, n + more) for name, n, more in zip(LISTS, received, space)}
@@ -228,18 +228,18 @@ def lend(name, commands, values=(), room=0, inputs=(), used=0, tapes=((),) * 4, 
 
 
 def small(counts):
-    """Tapes of that many small words."""
+    """Tapes of so many small words."""
     return [[10 * (t + 1) + k for k in range(n)] for t, n in enumerate(counts)]
 
 
 def shorter(case, *names):
-    """The case with the last word of these lists gone."""
+    """The case without the last word of these lists."""
     for name in names:
         case.lists[name].pop()
     return case
 
 
-# Handles 1 and 2 are 7 and 5, as M1 and M2 leave them, 3 is a bit word and 4 a ring value again.
+# Handles 1 and 2 are 7 and 5, as worked cases 1 and 2 leave them, 3 is a bit word and 4 a ring value again.
 VALUES = [(1, [1, 2, 4]), (1, [3, 4, 4294967294]), (2, [2863311530, 1431655765, 15]), (1, [11, 12, 13])]
 USUAL = {1: (1, 0, 0), 4: (4, 1, 9), 5: (5, 1, 9), 7: (7, 1, 0), 8: (8, 1, 0), 9: (9, 3, 31), 11: (11, 1, 0)}
 USUAL |= {code: (code, 1, 2) for code in ROWS if code not in USUAL}
@@ -260,20 +260,23 @@ def plenty(name, commands, room=2):
     return lend(name, commands, VALUES, room, **some, received=(1, 1, 1, 1), space=(26, 30, 30, 4))
 
 
-# ---- the paper's own: the session of M1 to M4, then M5 to M12
+# ---- the worked cases: 1 to 4 as a session, then 5 to 12. Specification: Worked computations
 
 
-def papers():
+def worked():
     session = [(1, 0, 0), (1, 0, 0), (6, 1, 2), (11, 3, 0)]
     tapes = [[1, 2, 3, 4], [10, 20, 70], [30, 40, 80], [50, 60, 90]]
-    case = lend("session of M1 to M4", session, room=4, inputs=[7, 5], tapes=tapes, space=(8, 8, 8, 4))
+    case = lend("session of worked cases 1 to 4", session, room=4, inputs=[7, 5], tapes=tapes, space=(8, 8, 8, 4))
     _, _, opened, machine = keep(case, 0, 0, 0, 0).run()
     columns = list(zip(*(machine.lists[table] for table in TABLES)))[:3]
     assert columns == [(1, 2, 4, 1), (3, 4, 4294967294, 1), (4294967149, 4294966074, 1404, 1)] and opened == [0, 0, 0, 35]
     assert machine.lists["controller"][:3] == [4294967129, 4294966084, 1414]
     assert machine.lists["received1"][:7] == [1, 3, 50, 60, 24, 18, 90]
     assert [machine.place[name] for name in LISTS] == [7, 7, 7, 3]
-    for name, shares, b, due in (("M5", [1, 0, 1], 1, [0, 5, 4294967291]), ("M6", [0, 1, 0], 0, [0, 4294967292, 5])):
+    for name, shares, b, due in (
+        ("worked case 5", [1, 0, 1], 1, [0, 5, 4294967291]),
+        ("worked case 6", [0, 1, 0], 0, [0, 4294967292, 5]),
+    ):
         tapes, bit = [[], [b, 5, 0, 70], [80], [90]], [(9, 1, 0), (11, 2, 0)]
         case = lend(f"{name} and its opening", bit, [(2, shares)], 1, tapes=tapes, space=(2, 5, 5, 4))
         machine = keep(case, 0, 0).run()[3]
@@ -281,14 +284,15 @@ def papers():
     long = [[], [4294967295, *range(2, 30)], [*range(40, 64)], [*range(70, 94)]]
     bits = [(8, 1, 0), (9, 2, 0), (11, 3, 0)]
     zero = [(1, [5, 6, 4294967285])]
-    keep(lend("M7 v is 1 and r is 4294967295", bits, zero, 2, tapes=long, space=(24, 30, 30, 4)), 0, 0, 0)
+    case = lend("worked case 7, v is 1 and r is 4294967295", bits, zero, 2, tapes=long, space=(24, 30, 30, 4))
+    keep(case, 0, 0, 0)
     for name, code, u, v, due in (
-        ("M8 folding all ones", 10, [1, 2, 4], [3, 4, 0], 1),
-        ("M9 folding 4294967294", 10, [9, 2, 3], [8, 2, 3], 0),
-        ("M10 65536 times 65536", 6, [65536, 0, 0], [0, 65536, 0], 0),
-        ("M11 3 below 5", 12, [0, 1, 2], [2, 2, 1], 1),
-        ("M11 5 below 5", 12, [0, 1, 4], [2, 2, 1], 0),
-        ("M12 4294967295 below 0", 12, [4294967295, 1, 4294967295], [1, 1, 4294967294], 1),
+        ("worked case 8, folding all ones", 10, [1, 2, 4], [3, 4, 0], 1),
+        ("worked case 9, folding 4294967294", 10, [9, 2, 3], [8, 2, 3], 0),
+        ("worked case 10, 65536 times 65536", 6, [65536, 0, 0], [0, 65536, 0], 0),
+        ("worked case 11, 3 below 5", 12, [0, 1, 2], [2, 2, 1], 1),
+        ("worked case 11, 5 below 5", 12, [0, 1, 4], [2, 2, 1], 0),
+        ("worked case 12, 4294967295 below 0", 12, [4294967295, 1, 4294967295], [1, 1, 4294967294], 1),
     ):
         then = [(code, 1, 2), (11, 3, 0)]
         case = lend(f"{name} and its opening", then, [(1, u), (1, v)], 1, tapes=long, space=(24, 30, 30, 4))
@@ -311,11 +315,11 @@ def edges():
             keep(shorter(exact(f"number 13: {name}, {list_} one word too short", code), list_), 13)
 
 
-# ---- number 4: kinds, lengths of tables, places
+# ---- number 4: kinds, lengths of tables, place record
 
 
 def adding(name, room=1, space=(1, 1, 1, 3), then=()):
-    """An addition, which asks nothing of tapes and received lists."""
+    """An addition, which needs no words of tapes and no room in received lists."""
     some = {"inputs": [6], "used": 1, "tapes": small((2, 1, 1, 1)), "drawn": (1, 1, 1, 1)}
     return lend(name, [(2, 1, 2), *then], VALUES[:3], room, **some, received=(1, 1, 1, 1), space=space)
 
@@ -417,7 +421,7 @@ def positions():
     keep(plenty("inside 9: six positions, as far as tape1 goes", [(9, 3, p) for p in range(0, 31, 5)], 7), *[0] * 6, 12)
 
 
-# ---- numbers 10 to 13: the table's examples and one step inside
+# ---- numbers 10 to 13: the examples of the table, and one step inside
 
 
 def stock():
@@ -493,7 +497,7 @@ def orders():
         keep_lowest(case, 4)
 
 
-# ---- runs: refusals in between, the same handle twice, what one command leaves to the next
+# ---- runs: refusals in between, the same handle twice, each command on what the one before left
 
 
 def runs():
@@ -545,19 +549,19 @@ class Choice:
         return {UNUSED: lambda: 0, WORD: self.word, POSITION: lambda: self.below(32)}.get(form, lambda: self.of(right))()
 
     def near(self, n, short):
-        """A length about that which is asked for."""
+        """A length near n; at `short` 0 never below it."""
         return max(0, n + self.below(4) - short * self.below(3))
 
 
 def damaged(choice, command, handles):
-    """The command with another word in one field: mostly near an edge."""
+    """The command with another word in one field, mostly near an edge."""
     other = choice.of((0, handles + 1, 13, 32, LAST, choice.below(handles + 1), choice.word()))
     at = choice.of((0, 1, 1, 2, 2))
     return *command[:at], other, *command[at + 1 :]
 
 
 def generated(seed):
-    """A run of 6 to 12 commands on lists about as long as it asks for."""
+    """A run of 6 to 12 commands on lists about as long as it needs."""
     choice = Choice(1000 + seed)
     values = [(1 + (choice.below(3) == 0), choice.list(3)) for _ in range(choice.below(4))]
     kinds, commands, rows = [kind for kind, _ in values], [], []
@@ -581,7 +585,7 @@ def generated(seed):
 
 
 def faulty(choice, case):
-    """The case with a fault of number 4, and fewer commands, since all are refused."""
+    """The case with something wrong that number 4 answers, and fewer commands, since all are refused."""
     case.commands = case.commands[:3]
     if choice.below(2):
         case.place[choice.of(PLACES)] += 60 + choice.below(60)
@@ -606,7 +610,7 @@ def generate():
 
 def made():
     """The texts of stdin and stdout."""
-    for group in (papers, edges, kinds, lengths, places, codes, fields, positions, stock, orders, runs, generate):
+    for group in (worked, edges, kinds, lengths, places, codes, fields, positions, stock, orders, runs, generate):
         group()
     names = [case.name for case in CASES]
     assert len(set(names)) == len(names)

@@ -1,14 +1,14 @@
-"""A second writing of the three-miner protocols, and the vectors that it gives for the crate `protocols`.
+"""The three-miner protocols, written a second time, and the vectors that they give for the crate `protocols`.
 
-Written from the papers, position by position, and sharing no code with the crate: document 000 (algorithms 1, 3, 4 and
-5), document 001 (sharing and resharing) and document 01 (order of draws and of received words, opening, below). The
-program `crates/vectors` runs the same cases on the proved library and has to write the same text. To write it anew:
+Written bit by bit from report T-4-10 (algorithms 1, 3, 4 and 5) and from docs/SPECIFICATION.md
+(Specification: Order of words; Store; Reshare; Open; Below), and sharing no code with the crate. The program
+`crates/vectors` runs the same cases on the proved library and has to write the same text. To write it anew:
 
     python3 tests/protocol_vectors.py > crates/vectors/stdout
 
-A protocol moves the drawn counts of the place record alone: commands, which stand on the protocols, move the others.
-A tape with too few words left is number 12, else a received list with too few is number 13: shares 0, 0, 0, the place as it
-was and no words. Else the number is 0, and each party's words go to the front of its list.
+A protocol moves only the drawn counts of the place record: the commands move the others. If a tape has too few words left,
+the number is 12, else, if a received list has too little room, 13: then the shares are 0, 0, 0, the place record stays, and
+no word is sent. Else the number is 0, and each party's words go to the front of its list.
 """
 
 from types import SimpleNamespace
@@ -21,7 +21,7 @@ TAPES, LISTS = ("provider", "miner 1", "miner 2", "miner 3", "no tape"), ("miner
 
 
 def set_width(rounds):
-    """Words of 2^rounds bits. The papers' have 2^5; blindness_counts.py, which goes through all words, takes smaller ones."""
+    """Words of 2^rounds bits: 2^5 in the engine, fewer in blindness_counts.py, which goes through all words."""
     WIDTH.rounds, WIDTH.bits, WIDTH.ring = rounds, 2**rounds, 2 ** 2**rounds
 
 
@@ -34,7 +34,7 @@ def each(share):
 
 
 def fresh(s, r):
-    """001, resharing: own mask on, the previous miner's off."""
+    """Own mask on, the previous miner's off. Specification: Reshare."""
     return each(lambda i: s[i] + r[i] - r[PREVIOUS[i]])
 
 
@@ -43,7 +43,7 @@ def bit_of(word, j):
 
 
 def and_(a, j, b, k):
-    """000, algorithm 4, line 22: shares of the 'and' of position j of a and position k of b."""
+    """Shares of the 'and' of bit j of a and bit k of b: report T-4-10, algorithm 4, line 22. Specification: Shared and."""
     x, y = {i: bit_of(a[i], j) for i in MINERS}, {i: bit_of(b[i], k) for i in MINERS}
     return {i: (x[i] & y[i]) ^ (x[i] & y[PREVIOUS[i]]) ^ (x[PREVIOUS[i]] & y[i]) for i in MINERS}
 
@@ -69,7 +69,7 @@ class Run:
         self.received[party].extend(words)
 
     def masks(self, count):
-        """Each miner draws `count` words and sends them on: the three first ones, the three second ones."""
+        """Each miner draws `count` words and sends them on; answers the three first ones, then the three second ones."""
         drawn = {i: [self.draw(i) for _ in range(count)] for i in MINERS}
         for i in MINERS:
             self.send(NEXT[i], *drawn[i])
@@ -91,7 +91,7 @@ class Run:
         return shares
 
     def multiply(self, u, v):
-        """000, algorithm 1."""
+        """Report T-4-10, algorithm 1. Specification: Multiply."""
         r, s = self.masks(2)
         u, v = fresh(u, r), fresh(v, s)
         for i in MINERS:
@@ -99,7 +99,7 @@ class Run:
         return each(lambda i: u[i] * v[i] + u[i] * v[PREVIOUS[i]] + u[PREVIOUS[i]] * v[i])
 
     def bit(self, shares, j):
-        """000, algorithm 3, on bit j of the shares."""
+        """Report T-4-10, algorithm 3, for bit j. Specification: Bit."""
         u = each(lambda i: bit_of(shares[i], j))
         b, m12, b12 = self.draw(1) % 2, self.draw(1), self.draw(1) % 2
         m13, b13 = ((b ^ u[1]) - m12) % WIDTH.ring, b ^ b12
@@ -111,14 +111,14 @@ class Run:
         return {1: 0, 2: (1 - m12) % WIDTH.ring, 3: -m13 % WIDTH.ring} if s23 ^ s32 == 1 else {1: 0, 2: m12, 3: m13}
 
     def masked(self, shared, masks):
-        """000, algorithm 4, lines 14 to 17: each shared word with own and previous masks, sent on; then new masks."""
+        """Each shared word with its masks taken on, sent on; then new masks: report T-4-10, algorithm 4, lines 14 to 17."""
         shared = [each(lambda i: p[i] ^ q[i] ^ q[PREVIOUS[i]]) for p, q in zip(shared, masks)]
         for i in MINERS:
             self.send(NEXT[i], *(p[i] for p in shared))
         return shared, self.masks(len(masks))
 
     def bits(self, u):
-        """000, algorithm 4, lines 1 to 27."""
+        """Report T-4-10, algorithm 4, lines 1 to 27. Specification: Bits."""
         r, r2, bar2 = self.draw(1), self.draw(1), self.draw(1)
         r3, bar3 = (u[1] - r - r2) % WIDTH.ring, r ^ bar2
         self.send(2, r2, bar2)
@@ -143,7 +143,7 @@ class Run:
         return w
 
     def equal(self, u, v):
-        """000, algorithm 5."""
+        """Report T-4-10, algorithm 5. Specification: Equal."""
         r2 = self.draw(1)
         r3 = (u[1] - v[1] - r2) % WIDTH.ring
         self.send(2, r2)
@@ -160,8 +160,8 @@ class Run:
         return self.bit(self.bits(each(lambda i: u[i] - v[i])), WIDTH.bits - 1)
 
 
-# Document 01's table: operands (u and v are shares, w an input, a constant or a position), protocol, words received by
-# miners 1 to 3 and the controller, words drawn by the provider and miners 1 to 3, both at 32 bits.
+# Operands (u and v are shares, w is an input, a constant or a position), protocol, received words of miners 1 to 3 and the
+# controller, drawn words of the provider and miners 1 to 3, both at 32 bits. Specification: Table of commands.
 COMMANDS = {
     "store": ("w", lambda run, u, v, w: run.store(w), [1, 1, 1, 0], [2, 0, 0, 0]),
     "add": ("uv", lambda run, u, v, w: each(lambda i: u[i] + v[i]), [0, 0, 0, 0], [0, 0, 0, 0]),
@@ -177,24 +177,39 @@ COMMANDS = {
     "below": ("uv", lambda run, u, v, w: run.below(u, v), [22, 28, 28, 0], [0, 18, 12, 12]),
 }
 SMALL = [[], [*range(1, 19)], [*range(20, 32)], [*range(40, 52)]]
-# Document 01's cases, and Bit at the ends of a word and past it: protocol, operands, tapes, and the shares or value due.
+# The worked cases, and Bit at the ends of a word and past it: protocol, operands, tapes, and the shares or value due.
+# Specification: Worked computations.
 WORKED = {
-    "M1": ("store", [], [], 7, [[1, 2], [], [], []], [1, 2, 4]),
-    "M2": ("store", [], [], 5, [[3, 4], [], [], []], [3, 4, 4294967294]),
-    "M3": ("multiply", [1, 2, 4], [3, 4, 4294967294], 0, [[], [10, 20], [30, 40], [50, 60]], [4294967149, 4294966074, 1404]),
-    "M4": ("open", [4294967149, 4294966074, 1404], [], 0, [[], [70], [80], [90]], [4294967129, 4294966084, 1414]),
-    "M5": ("bit", [1, 0, 1], [], 0, [[], [1, 5, 0], [], []], [0, 5, 4294967291]),
-    "M6": ("bit", [0, 1, 0], [], 0, [[], [0, 5, 0], [], []], [0, 4294967292, 5]),
+    "worked case 1": ("store", [], [], 7, [[1, 2], [], [], []], [1, 2, 4]),
+    "worked case 2": ("store", [], [], 5, [[3, 4], [], [], []], [3, 4, 4294967294]),
+    "worked case 3": (
+        "multiply",
+        [1, 2, 4],
+        [3, 4, 4294967294],
+        0,
+        [[], [10, 20], [30, 40], [50, 60]],
+        [4294967149, 4294966074, 1404],
+    ),
+    "worked case 4": (
+        "open",
+        [4294967149, 4294966074, 1404],
+        [],
+        0,
+        [[], [70], [80], [90]],
+        [4294967129, 4294966084, 1414],
+    ),
+    "worked case 5": ("bit", [1, 0, 1], [], 0, [[], [1, 5, 0], [], []], [0, 5, 4294967291]),
+    "worked case 6": ("bit", [0, 1, 0], [], 0, [[], [0, 5, 0], [], []], [0, 4294967292, 5]),
     "first": ("bit", [4294967295, 4294967295, 4294967295], [], 0, SMALL, 1),
     "last": ("bit", [4294967295, 4294967295, 4294967295], [], 31, SMALL, 1),
     "past": ("bit", [4294967295, 4294967295, 4294967295], [], 32, SMALL, 0),
-    "M7": ("bits", [5, 6, 4294967285], [], 0, [[], [4294967295, *range(2, 19)], *SMALL[2:]], 0),
-    "M8": ("equal", [1, 2, 4], [3, 4, 0], 0, SMALL, 1),
-    "M9": ("equal", [9, 2, 3], [8, 2, 3], 0, SMALL, 0),
-    "M10": ("multiply", [65536, 0, 0], [0, 65536, 0], 0, SMALL, 0),
-    "M11": ("below", [0, 1, 2], [2, 2, 1], 0, SMALL, 1),
-    "M11 too": ("below", [0, 1, 4], [2, 2, 1], 0, SMALL, 0),
-    "M12": ("below", [4294967295, 1, 4294967295], [1, 1, 4294967294], 0, SMALL, 1),
+    "worked case 7": ("bits", [5, 6, 4294967285], [], 0, [[], [4294967295, *range(2, 19)], *SMALL[2:]], 0),
+    "worked case 8": ("equal", [1, 2, 4], [3, 4, 0], 0, SMALL, 1),
+    "worked case 9": ("equal", [9, 2, 3], [8, 2, 3], 0, SMALL, 0),
+    "worked case 10": ("multiply", [65536, 0, 0], [0, 65536, 0], 0, SMALL, 0),
+    "worked case 11": ("below", [0, 1, 2], [2, 2, 1], 0, SMALL, 1),
+    "worked case 11 too": ("below", [0, 1, 4], [2, 2, 1], 0, SMALL, 0),
+    "worked case 12": ("below", [4294967295, 1, 4294967295], [1, 1, 4294967294], 0, SMALL, 1),
 }
 
 
@@ -206,7 +221,7 @@ def words_from(x):
 
 
 def generated(name, words):
-    """The next case of a protocol: operands and place, the tapes, and how much of each is lent where tapes are cut."""
+    """The next case of a protocol: operands, place record, tapes, and how much of each is lent where tapes are cut."""
     u, v, [w] = ([next(words) for _ in range(n)] for n in (3, 3, 1))
     place = [next(words) % size for size in (100, 100, 4, 4, 4, 4, 1000, 1000, 1000, 1000)]
     lent = [place[2 + x] + n + next(words) % 8 - (n > 0) for x, n in enumerate(COMMANDS[name][3])]
@@ -232,30 +247,33 @@ def show(label, name, u, v, w, *rest):
 
 
 def worked():
-    """M1 to M12, and what miner 1 receives in the session of M1 to M4."""
+    """The worked cases, and what miner 1 receives in the session of cases 1 to 4."""
     kept = {}
     for label, (name, u, v, w, tapes, given) in WORKED.items():
         number, shares, _, kept[label] = perform(name, u, v, w, [0] * 10, tapes)
         value = shares[0] ^ shares[1] ^ shares[2] if name == "bits" else sum(shares) % RING
         assert given in (shares, value)
         show(label, name, u, v, w, "number", number, "shares", *shares, "value", value)
-    assert [word for label in ("M1", "M2", "M3", "M4") for word in kept[label][0]] == [1, 3, 50, 60, 24, 18, 90]
+    assert [word for n in (1, 2, 3, 4) for word in kept[f"worked case {n}"][0]] == [1, 3, 50, 60, 24, 18, 90]
 
 
 def exact(tapes, need, short=None):
-    """Tapes with just the words needed after those that the place 1 to 10 counts as drawn, one word less in the short one."""
+    """Tapes that end just after the words needed, behind those that the place record 1 to 10 counts; the short one a word
+    earlier."""
     return [tape[: 3 + x + n - (x == short)] for x, (tape, n) in enumerate(zip(tapes, need))]
 
 
 def deliver(place, lists, number, shares, moved, received):
-    """01, number 13: 'any received list has fewer words left than needed'. Number 12 is lower, and then no words are due."""
+    """Number 13, if a list has too little room; number 12 is lower, and then no words are due.
+    Specification: Table of refusals."""
     if any(len(words) > len(lent) for words, lent in zip(received, lists)):
         return 13, [0, 0, 0], place, lists
     return number, shares, moved, [words + lent[len(words) :] for words, lent in zip(received, lists)]
 
 
 def deliveries(name, operands, tapes, need):
-    """Tails of the lists 100 to 131 with exactly enough room, more, and one word less in one list, then in a tape too."""
+    """Ends of the lists 100 to 131 with exactly enough room, with more, and with a word less in one list; then in a tape
+    too."""
     counts, place, whole = COMMANDS[name][2], list(range(1, 11)), list(range(100, 132))
     first = next(x for x, n in enumerate(need) if n)
     lines = [("exact", 0, None, None), ("more", 2, None, None)]
@@ -270,7 +288,7 @@ def deliveries(name, operands, tapes, need):
 
 
 def cases(name, need, words):
-    """A protocol's cases: three in full, tapes that end too soon, lists that are too short, and two hundred as a checksum."""
+    """A protocol's cases: three in full, tapes and lists that are too short, and two hundred as a checksum."""
     for n in (1, 2, 3):
         operands, tapes, _ = generated(name, words)
         number, shares, place, received = perform(name, *operands, tapes)

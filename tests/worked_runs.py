@@ -1,7 +1,7 @@
 """One worked run of each command, for the prover to check by computation.
 
-The numbers are those of command_cases.py, which is written apart from the engine. All words that are lent, but for the
-kinds, are different. To write the file that crates/machine keeps:
+The numbers are those of command_cases.py, which shares no code with the engine. All words that are lent, but for the kinds,
+are different. To write the file of crates/machine anew:
 
     python3 tests/worked_runs.py > crates/machine/specs/WorkedRuns.antt
 """
@@ -32,8 +32,9 @@ HELD |= {"received1": 1, "received2": 2, "received3": 4, "controller": 3}
 MORE = {**dict.fromkeys(TABLES, 2), INPUTS: 2, "provider": 3, "tape1": 19, "tape2": 13, "tape3": 13}
 MORE |= {"received1": 23, "received2": 29, "received3": 29, "controller": 4}
 HEAD = """\
--- One worked run of each command. The numbers are those of a second writing of the machine, which shares nothing with
--- this one: tests/worked_runs.py prints this file. All words that are lent, but for the kinds, are different.
+-- One worked run of each command; Specification: Accepted commands. tests/worked_runs.py prints this file: its numbers
+-- come from a second writing of the machine, which shares no code with the engine. All words that are lent, but for the
+-- kinds, are different.
 use Rattle.std.specs.Prelude.{◌≡◌, ℕ, List, [], ◌∷◌, ◌++◌, length, drop}
 use Rattle.protocols.specs.declared.place.Place.{Place}
 use Rattle.protocols.specs.declared.shares.Shares.{Shares}
@@ -43,7 +44,7 @@ use Rattle.machine.specs.Table.{command_of}
 use Rattle.machine.specs.Lent.{Tables, tables, Lent, lent_lists}
 use Rattle.machine.specs.Command.{CommandOutcome, answer, command_outcome, command}
 """
-# What is lent, each list in the place of a %s.
+# What is lent, a list for each %s.
 LENT = """\
 -- ---- what is lent to each run
 
@@ -54,7 +55,7 @@ values = tables
 %s
 abbrev pub kinds : List ℕ
 kinds = %s
--- what stands in the two entries that are not filled
+-- the two entries that are not filled
 abbrev pub unfilled_entries : Tables
 unfilled_entries = tables
 %s
@@ -67,23 +68,22 @@ inputs = %s
 abbrev pub lent_tapes : Tapes
 lent_tapes = tapes
 %s
--- the words that were received before
+-- the words that were received before the run
 abbrev pub words_before : Lists
 words_before = lists
 %s
--- what stands in the unfilled part of each list
+-- the unfilled part of each received list
 abbrev pub unfilled_parts : Lists
 unfilled_parts = lists
 %s
--- filled handles and used inputs; words drawn by the provider and miners 1 to 3; words received by these miners and the
--- controller
+-- the ten counts; Specification: Place record
 abbrev pub start : Place
 start = place_of (%s)
 """
 FORMS = """\
 -- ---- a run, and what it leaves
 
--- a list: the words that it held, new words after them, and the rest of it as it was
+-- a list: the words that it held, new words behind them, and the rest of it as it was
 abbrev pub with_words : List ℕ → List ℕ → List ℕ → List ℕ
 with_words held words beyond = held ++ (words ++ drop (length words) beyond)
 
@@ -111,28 +111,27 @@ no_shares = tables [] [] []
 abbrev pub outcome_at_start : ℕ → ℕ → ℕ → CommandOutcome
 outcome_at_start code a b = command 5 (command_of code a b) start (lent_with no_shares [] silence)
 
--- a new value: the ten counts of the place record, the shares and the kind, and the words that each party receives;
--- 0 is answered, and no word is opened
+-- of a command that makes a value: the ten counts after it, shares and kind, and the words that each party receives
 abbrev pub outcome_with_value : List ℕ → Shares → ℕ → Lists → CommandOutcome
 outcome_with_value counts s kind words =
     command_outcome (answer 0 (place_of counts) 0)
     (lent_with (tables (s.one ∷ []) (s.two ∷ []) (s.three ∷ [])) (kind ∷ []) words)
 
--- an opened word: the ten counts, the word, and the words that each party receives; 0 is answered
+-- of an open: the ten counts after it, the opened word, and the words that each party receives
 abbrev pub outcome_with_opened_word : List ℕ → ℕ → Lists → CommandOutcome
 outcome_with_opened_word counts word words =
     command_outcome (answer 0 (place_of counts) word) (lent_with no_shares [] words)
 """
 RECORD = """\
--- promised by `worked_runs`: from a place where something is held in each list already, each of the twelve commands
--- takes exactly the next words of the tapes, answers exactly these counts and this opened word, writes exactly these
--- shares and this kind into the next entry, and puts exactly these words, in this order, into the unfilled part of each
--- party's list; all else stays as it was.
+-- promised by `worked_runs`: from a place record that counts words of each list, each of the twelve commands draws the
+-- next words of the tapes, answers exactly these counts and this opened word, writes exactly these shares and this kind
+-- into the next entry and exactly these words, in this order, into the unfilled part of each party's list; all else
+-- stays as it was. Specification: Accepted commands.
 pub record WorkedRuns : Type 0 where"""
 
 
 def all_lists():
-    """Large words, but small ones in what is not filled: 101, 102 .. in the first share table, 201 .. in the second."""
+    """Large words where a list is filled, small ones behind: 101, 102 .. in the first share table, 201 .. in the second."""
     words = words_from(22)
     lists = {name: [next(words) for _ in range(HELD[name] + MORE[name])] for name in (*TABLES, INPUTS, *TAPES, *LISTS)}
     for n, name in enumerate((*TABLES, *LISTS), 1):

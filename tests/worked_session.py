@@ -1,11 +1,10 @@
 """The worked session, one that stops, the empty one and a file of no word, for the prover to check by computation.
 
-The numbers are those of command_cases.py, which is written apart from the engine. To write the file that crates/session
-keeps:
+The numbers are those of command_cases.py, which shares no code with the engine. To write the file of crates/session anew:
 
     python3 tests/worked_session.py > crates/session/specs/Worked.antt
 
-The worked session and its text are those on which the program `pool` is run.
+The program `pool` is run on the same worked session and has to print the same text.
 """
 
 import string
@@ -22,9 +21,9 @@ STOPPED = [(1, 0, 0), (2, 0, 1)], [7], [[1, 2], [], [], []]
 ENTRIES, ROOM = 128, 3584  # the lists that the program lends
 POOL = CRATE.parent / "pool"
 FILE = string.Template("""\
--- The worked session, one that stops, the empty one and a file of no word: what they answer, print and leave.
--- The numbers are those of a second writing of the machine, which shares nothing with this one:
--- tests/worked_session.py prints this file.
+-- The worked session, one that stops, the empty one and a file of no word: what they answer, print and leave;
+-- Specification: Worked sessions. tests/worked_session.py prints this file: its numbers come from a second writing of
+-- the machine, which shares no code with the engine.
 use Rattle.std.specs.Prelude.{◌≡◌, ℕ, ◌/◌, ◌%◌, ◌≤◌, List, [], ◌∷◌, ◌++◌, length, drop, replicate, codes}
 use Rattle.protocols.specs.Place.{lists, place_of}
 use Rattle.machine.specs.Lent.{tables}
@@ -34,12 +33,12 @@ use Rattle.session.specs.Text.{pool_outcome, pool}
 
 -- ---- the files
 
--- words as bytes, the lowest byte of each first
+-- words as bytes, the lowest byte of each first; Specification: Sheet file
 abbrev pub bytes : List ℕ → List ℕ
 bytes [] = []
 bytes (w ∷ l) = w % 256 ∷ w / 256 % 256 ∷ w / 65536 % 256 ∷ w / 16777216 ∷ bytes l
 
--- start and count of each body; four commands; two inputs; the tapes of the provider and of miners 1 to 3
+-- start and count of each body; four commands; two inputs; the tapes of the provider and miners 1, 2, 3
 abbrev pub worked_file : List ℕ
 worked_file =
 $worked
@@ -54,12 +53,12 @@ abbrev pub empty_file : List ℕ
 empty_file =
 $nothing
 
--- ---- what the program lends, and what the first two leave in it
+-- ---- what the program lends, and what the first two sessions leave in it; Specification: Program
 
 abbrev pub zeros : ℕ → List ℕ
 zeros n = replicate n 0
 
--- share tables and kinds; the words received by miners 1 to 3 and the controller
+-- share tables and kind list; received lists
 abbrev pub state_before : State
 state_before =
     state (tables (zeros $entries) (zeros $entries) (zeros $entries)) (zeros $entries)
@@ -77,11 +76,12 @@ state_after_stop =
     state
 $stopped_left
 
--- promised by `worked_session`: whatever words are lent, if they are $fewest or more, the bytes of these three files
--- lead to exactly these answers and texts, and leave exactly these shares, kinds and received words, every list whole;
--- the lent words then begin with the file's, and the rest of them is as it was. A file of no word is refused.
+-- promised by `worked_session`: whatever words are lent, if there are $fewest or more, the bytes of these three files
+-- give exactly these answers and texts, and leave exactly these shares, kinds and received words, every list whole, and
+-- the file's words in front of the lent ones, which else stay as they were. A file of no word is refused.
+-- Specification: Worked sessions; Sessions.
 pub record WorkedSession : Type 0 where
-  -- four commands are done; the ten counts of the place record
+  -- four commands are done
   pub worked_outcome : (w : List ℕ) → $fewest ≤ length w
       → session (bytes worked_file) w state_before
       ≡ session_outcome (session_answer $worked_answer)
@@ -89,7 +89,7 @@ pub record WorkedSession : Type 0 where
   pub worked_text : (w : List ℕ) → $fewest ≤ length w
       → pool (bytes worked_file) w state_before
       ≡ pool_outcome (codes "$worked_text") (worked_file ++ drop $worked_length w) state_after
-  -- one command is done, and what it left stays; the next one is refused
+  -- one command is done, and what it wrote remains; the next one is refused
   pub stopped_outcome : (w : List ℕ) → $fewest ≤ length w
       → session (bytes stopped_file) w state_before
       ≡ session_outcome (session_answer $stopped_answer)
@@ -129,7 +129,7 @@ def with_zeros(words, length):
 
 
 def run(commands, inputs, tapes):
-    """The file's bodies, the answer as the prover has it, the text, and what is left."""
+    """The file's bodies, the answer in the prover's form, the text, and what is left."""
     lists = {**dict.fromkeys(TABLES, [0] * ENTRIES), **dict.fromkeys(LISTS, [0] * ROOM), INPUTS: inputs}
     machine = Machine(lists | dict(zip(TAPES, tapes)), dict.fromkeys(PLACES, 0))
     done, number, text = 0, 0, ""
@@ -148,7 +148,7 @@ def run(commands, inputs, tapes):
 
 
 def left_by(machine):
-    """Tables, kinds and received lists, as the prover has them."""
+    """Tables, kinds and received lists, in the prover's form."""
     place, left = machine.place, machine.lists
     tables = [with_zeros(left[name], place[HANDLES]) for name in TABLES]
     received = [with_zeros(left[name], place[name]) for name in LISTS]

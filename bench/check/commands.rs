@@ -1,4 +1,4 @@
-//! Sequences of commands on short lists, refused ones among them, some on unsound lists.
+//! Sequences of commands on short lists, some refused, some on unsound lists.
 
 use super::both;
 use crate::buffers::Buffers;
@@ -7,7 +7,7 @@ use crate::random::Random;
 use crate::reference::machine::{BIT_WORD, RING};
 use crate::reference::Lengths;
 
-/// One sequence: each command goes on from what the last one left.
+/// One sequence: each command on the lists and place record that the one before left.
 pub fn check(seed: u64, commands: usize, numbers: &mut [usize; 14]) {
     let mut random = Random::from_seed(seed);
     let mut buffers = buffers(&mut random);
@@ -30,7 +30,7 @@ pub fn check(seed: u64, commands: usize, numbers: &mut [usize; 14]) {
     }
 }
 
-/// Lists that some sequences fill; what is unfilled holds any words.
+/// Lists that some sequences fill; the rest holds random words.
 fn buffers(random: &mut Random) -> Buffers {
     let entries = 1 + random.below(40);
     let lengths = Lengths {
@@ -81,7 +81,7 @@ fn handle(random: &mut Random, filled: &[u32], kind: u32) -> u32 {
     }
 }
 
-/// The lists or the place spoiled in one way; often number 4 then applies.
+/// The lists or the place record changed in one way, so that often number 4 applies.
 fn unsound(random: &mut Random, sound: &Buffers, mut place: Place) -> (Buffers, Place) {
     let mut lists = sound.clone();
     let more = 1 + random.below(400);

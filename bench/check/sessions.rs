@@ -25,7 +25,7 @@ pub fn check(seed: u64, numbers: &mut [usize; 14]) {
     numbers[answer.number as usize] += 1;
 }
 
-/// The place record as the tests' generator takes it.
+/// The place record in the form of the tests' generator.
 fn place_of(place: engine::Place) -> machine::Place {
     let (drawn, received) = (place.drawn, place.received);
     machine::Place {

@@ -1,4 +1,4 @@
-//! The measured calls themselves: alike on both sides, and refused only where they are meant to be.
+//! The measured calls: alike on both sides, and refused only where they have to be.
 
 use super::{both, fail};
 use crate::buffers::Buffers;

@@ -1,8 +1,8 @@
-//! Bit.
+//! Specification: Bit.
 
 use super::Shares;
 
-/// On one position of bit shares, with miner 1's draws and room for miners 2 and 3.
+/// One position of bit shares, with miner 1's draws and room for the words of miners 2 and 3.
 #[inline(always)]
 pub fn bit(
     shares: Shares,

@@ -1,11 +1,11 @@
-//! Bits and below.
+//! Specification: Bits; Carry rounds; Below.
 
 use super::bit::{bit, last, last_mut};
 use super::lent::{Draws, Room};
 use super::masked::{and, mask};
 use super::{each, Shares};
 
-/// Round k: the positions that others take from, and those whose bit k is clear.
+/// Round k: the sources of other positions, and the positions whose bit k is clear.
 const SOURCES: [u32; 5] = [
     0x5555_5555,
     0x2222_2222,
@@ -24,7 +24,7 @@ const CLEAR: [u32; 5] = [
 /// Miner 1 draws three words before the rounds' masks; miners 2 and 3 receive three more.
 const DEALT: usize = 3;
 
-/// What the miners hold before a round: p and s with its masks q and t.
+/// The miners' shares before a round: p and s with their masks q and t.
 struct Held {
     p: Shares,
     s: Shares,
@@ -32,7 +32,7 @@ struct Held {
     t: Shares,
 }
 
-/// Each source's bit at every position that takes from it in round K.
+/// The source's bit at each position that has a source in round K.
 #[inline(always)]
 fn spread<const K: usize>(word: u32) -> u32 {
     let sources = word & SOURCES[K];
@@ -60,7 +60,7 @@ fn round<const K: usize, const D: usize, const R: usize>(
     }
 }
 
-/// Miner 1's dealing; answers the shares of p and of s.
+/// Miner 1's words; answers the shares of p and of s.
 #[inline(always)]
 fn deal<const R: usize>(
     [u1, u2, u3]: Shares,

@@ -4,7 +4,7 @@ use super::lent::{Lent, Table};
 use super::step::step;
 use crate::engine::{Answer, Lists, Place, Tables, Tapes};
 
-/// One command on lent lists. Not inlined, so that it is called as the engine is.
+/// One command on lent lists; not inlined, so that it is called like the engine.
 #[inline(never)]
 pub fn command(
     command: [u32; 3],

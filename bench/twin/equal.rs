@@ -1,11 +1,11 @@
-//! Equal.
+//! Specification: Equal; Fold rounds.
 
 use super::bit::{bit, last, last_mut};
 use super::lent::{Draws, Room};
 use super::masked::{and, mask};
 use super::{each, Shares};
 
-/// Round k: the positions that take the "and".
+/// Round k: the positions that become an "and".
 const HEADS: [u32; 5] = [
     0x5555_5555,
     0x1111_1111,

@@ -2,11 +2,11 @@
 
 use crate::engine::{Drawn, Place, Received, Tables};
 
-/// "Kind 1 is a ring value", "Kind 2 is a bit word".
+/// Specification: Kinds.
 pub const RING: u32 = 1;
 pub const BIT_WORD: u32 = 2;
 
-/// The refusal's number where something does not apply.
+/// A result, or the number of the refusal.
 pub type Checked<T> = Result<T, u32>;
 
 /// All lists of a command.
@@ -39,18 +39,18 @@ pub struct Room<'l, const ONE: usize, const OTHERS: usize> {
     pub three: &'l mut [u32; OTHERS],
 }
 
-/// The next N words from a place on.
+/// The N words from a position on.
 pub fn next<const N: usize>(list: &[u32], at: usize) -> Option<&[u32; N]> {
     list.get(at..)?.first_chunk()
 }
 
-/// Room for N words from a place on.
+/// Room for N words from a position on.
 pub fn next_mut<const N: usize>(list: &mut [u32], at: usize) -> Option<&mut [u32; N]> {
     list.get_mut(at..)?.first_chunk_mut()
 }
 
 impl<'l, const ONE: usize, const OTHERS: usize> Draws<'l, ONE, OTHERS> {
-    /// Number 12 where a tape is too short.
+    /// Number 12 if a tape is too short.
     #[inline(always)]
     pub fn of(tapes: &[&'l [u32]; 3], drawn: &Drawn) -> Checked<Self> {
         Ok(Draws {
@@ -75,7 +75,7 @@ impl<'l, const ONE: usize, const OTHERS: usize> Draws<'l, ONE, OTHERS> {
 }
 
 impl<'l, const ONE: usize, const OTHERS: usize> Room<'l, ONE, OTHERS> {
-    /// Number 13 where a list is too short.
+    /// Number 13 if a list is too short.
     #[inline(always)]
     pub fn of(lists: &'l mut [&mut [u32]; 3], received: &Received) -> Checked<Self> {
         let [one, two, three] = lists;
@@ -132,7 +132,7 @@ impl<'l> Table<'l> {
         ]
     }
 
-    /// Puts a new value.
+    /// Writes a new value.
     #[inline(always)]
     pub fn put(&mut self, place: &mut Place, kind: u32, shares: [u32; 3]) {
         let entry = place.handles;
@@ -145,7 +145,7 @@ impl<'l> Table<'l> {
 }
 
 impl Lent<'_> {
-    /// Number 4 unless the lists and the place agree and the filled kinds are kinds.
+    /// Number 4 unless lengths, place record and kinds are right. Specification: Table of refusals.
     #[inline(always)]
     pub fn check(&self, place: &Place) -> Checked<()> {
         if self.is_sound(place) {
@@ -176,7 +176,7 @@ impl Lent<'_> {
     }
 }
 
-/// Whether each kind is 1 or 2. Without an early way out, so that the loop runs on vectors.
+/// Whether each kind is 1 or 2; without an early return, so that the loop is vectorised.
 #[inline(always)]
 fn are_kinds(kinds: &[u32]) -> bool {
     kinds

@@ -1,4 +1,4 @@
-//! What the bit protocols' rounds share.
+//! Parts of carry rounds and fold rounds.
 
 use super::{each, previous, Shares};
 
@@ -9,7 +9,7 @@ pub fn mask(shares: Shares, masks: Shares) -> Shares {
     each(shares, both, |share, mask| share ^ mask)
 }
 
-/// A shared "and": own with own, own with previous, previous with own.
+/// Specification: Shared and.
 #[inline(always)]
 pub fn and(a: Shares, b: Shares) -> Shares {
     let either = each(b, previous(b), |own, before| own ^ before);

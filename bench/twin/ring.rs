@@ -1,4 +1,4 @@
-//! Store, reshare and multiply.
+//! Specification: Store; Reshare; Multiply.
 
 use super::lent::{Draws, Room};
 use super::{each, previous, Shares};
@@ -12,7 +12,7 @@ pub fn store(value: u32, [s1, s2]: [u32; 2], room: &mut Room<1, 1>) -> Shares {
     [s1, s2, s3]
 }
 
-/// Own mask added, the previous miner's taken off.
+/// Own mask added, the previous miner's subtracted.
 #[inline(always)]
 fn fresh(shares: Shares, masks: Shares) -> Shares {
     let added = each(shares, masks, u32::wrapping_add);

@@ -1,12 +1,12 @@
-//! The session call.
+//! The session call. Specification: Sessions.
 
 use super::lent::{Lent, Table};
 use super::sheet::{bounds, decode};
 use super::step::step;
 use crate::engine::{Lists, Place, SessionAnswer, Tables};
 
-/// The commands of a file from an empty place, up to the first that is refused. Not inlined, so
-/// that it is called as the engine is.
+/// The commands of a file, up to the first refusal; not inlined, so that it is called like the
+/// engine.
 #[inline(never)]
 pub fn session(
     file: &[u8],
@@ -40,7 +40,7 @@ fn answer(done: usize, place: Place, number: u32) -> SessionAnswer {
     }
 }
 
-/// Number 4 cannot apply: the place and the filled kinds are this run's own.
+/// Number 4 cannot apply: place record and filled kinds are this run's own.
 #[inline(always)]
 fn run(commands: &[u32], lent: &mut Lent) -> SessionAnswer {
     let mut place = Place::default();

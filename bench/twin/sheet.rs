@@ -1,8 +1,8 @@
 //! The session sheet: numbers 1 to 4, and a file's words.
 
-/// "The caller lends 7,692 words for the whole file."
+/// The fewest words that a caller lends for the file's. Specification: Sessions.
 const LENT_WORDS: usize = 7_692;
-/// "Most words allowed": commands, inputs, provider tape, tapes 1 to 3.
+/// Most words of each body, in the order of the contents. Specification: Limits.
 const LIMITS: [usize; 6] = [384, 128, 256, 2_304, 2_304, 2_304];
 
 /// Where the six bodies start; the last number is where the last one ends.

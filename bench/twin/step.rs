@@ -1,11 +1,11 @@
-//! One command on soundly lent lists: numbers 5 to 13, then its row's steps.
+//! One command on lists that number 4 does not apply to: numbers 5 to 13, then its protocol.
 
 use super::lent::{next, next_mut, Checked, Draws, Lent, Room, BIT_WORD, RING};
 use super::{bit, bits, each, equal, ring, Shares};
 use crate::engine::Place;
 
-/// The opened word, 0 if nothing is opened, or the refusal's number. Nothing changes before the
-/// last check.
+/// The opened word (0 if nothing is opened) or the number of the refusal. Nothing is written before
+/// the last check.
 #[inline(always)]
 pub fn step([code, a, b]: [u32; 3], place: &mut Place, lent: &mut Lent) -> Checked<u32> {
     let fields = [a, b];
@@ -105,7 +105,7 @@ fn store([a, b]: [u32; 2], place: &mut Place, lent: &mut Lent) -> Checked<()> {
     Ok(())
 }
 
-/// Two operands, each miner on its own shares alone.
+/// Two operands, each miner on its own shares. Specification: Local commands.
 #[inline(always)]
 fn local_pair(
     handles: [u32; 2],
@@ -133,7 +133,7 @@ fn local(
     Ok(())
 }
 
-/// A protocol of the three miners, whose draws and received words its type counts.
+/// A protocol of the three miners; its type has the counts of drawn and received words.
 #[inline(always)]
 fn joint<const D1: usize, const D: usize, const R1: usize, const R: usize>(
     place: &mut Place,

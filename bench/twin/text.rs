@@ -1,9 +1,9 @@
-//! The text that `pool` prints.
+//! The text that `pool` prints. Specification: Lines.
 
 use super::session;
 use crate::engine::{Lists, SessionAnswer, Tables, TEXT};
 
-/// "Over 30,768 bytes, the longest legal file, it prints `refused 3`."
+/// In bytes. Specification: Program.
 const LONGEST_FILE: usize = 30_768;
 const OPEN: u32 = 11;
 
@@ -26,7 +26,7 @@ pub fn pool(
     text.length
 }
 
-/// The room and how much of it is filled.
+/// The room, and how much of it is filled.
 struct Text<'o> {
     out: &'o mut [u8; TEXT],
     length: usize,
@@ -64,7 +64,7 @@ impl Text<'_> {
         self.put(b"\n");
     }
 
-    /// Opens, then how the session ended.
+    /// The lines of a session.
     fn report(&mut self, answer: &SessionAnswer, words: &[u32], controller: &[u32]) {
         let (done, received) = (answer.done as u32, &answer.place.received);
         if (1..=4).contains(&answer.number) {

@@ -1,4 +1,4 @@
-//! Single commands, on the tables and received lists that `pool` has and tapes of greatest length.
+//! Single commands, on the tables and received lists of `pool` and tapes of greatest length.
 
 use super::{Call, Workload};
 use crate::buffers::Buffers;
@@ -59,7 +59,7 @@ fn workload(group: &str, label: &str, handles: usize, command: [u32; 3], place: 
     }
 }
 
-/// A place amid all lists.
+/// A place record that points into the middle of all lists.
 fn place(handles: usize) -> Place {
     Place {
         handles,

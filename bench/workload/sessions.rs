@@ -1,4 +1,4 @@
-//! Whole sessions, on the lists that `pool` has.
+//! Whole sessions, on the lists of `pool`.
 
 use super::{Call, Workload};
 use crate::buffers::Buffers;

@@ -1,21 +1,21 @@
-//! Arbitrary single commands, with arbitrary places and lists.
+//! Arbitrary single commands, with arbitrary place records and lists.
 
 use crate::generate::Draft;
 use crate::random::Random;
 use crate::reference::machine::{row_of, Lent, Place, BIT_WORD, RING};
 
-/// A command with everything that is lent to it.
+/// A command and all that is lent to it.
 pub struct Command {
     pub words: [u32; 3],
     pub place: Place,
-    /// Without words, which only a session uses.
+    /// Without the words for a file, which a command does not use.
     pub lent: Lent,
     pub inputs: Vec<u32>,
-    /// Provider and miners 1 to 3.
+    /// Of the provider and miners 1 to 3.
     pub tapes: [Vec<u32>; 4],
 }
 
-/// Mostly one that is accepted, or nearly.
+/// Most are accepted, or refused for a single fault.
 pub fn arbitrary(random: &mut Random) -> Command {
     let filled = random.pick(&[0, 1, 2, 3, 5, 8, 13, 40, 127, 300]);
     let mut kinds: Vec<u32> = (0..filled)
@@ -34,7 +34,7 @@ pub fn arbitrary(random: &mut Random) -> Command {
     command
 }
 
-/// Accepted on handles of these kinds, or spoiled, or any words.
+/// Words that are accepted on handles of these kinds, or those with a fault, or any words.
 fn command_words(random: &mut Random, kinds: &[u32]) -> [u32; 3] {
     let draft = Draft {
         kinds: kinds.to_vec(),
@@ -49,8 +49,8 @@ fn command_words(random: &mut Random, kinds: &[u32]) -> [u32; 3] {
     words
 }
 
-/// Inputs, tapes and received lists with as much left as the command needs, or one of them with a
-/// little less now and then.
+/// Inputs, tapes and received lists, most with as much left as the command needs or more, a few
+/// with less.
 fn with_enough(random: &mut Random, words: [u32; 3], handles: usize, kinds: Vec<u32>) -> Command {
     let row = row_of(words[0]);
     let (inputs, drawn, received) = row.map_or((0, [0; 4], [0; 4]), |row| {
@@ -84,7 +84,7 @@ fn with_enough(random: &mut Random, words: [u32; 3], handles: usize, kinds: Vec<
     }
 }
 
-/// How much is left of a list of which the command needs so much.
+/// How much is left in a list of which the command needs this much.
 fn left(random: &mut Random, need: usize) -> usize {
     match random.below(20) {
         0 => random.below(need.max(1)),
@@ -93,7 +93,7 @@ fn left(random: &mut Random, need: usize) -> usize {
     }
 }
 
-/// Makes number 4 apply, where the lists allow it.
+/// Makes refusal 4 apply, where the lists allow it.
 fn damage(random: &mut Random, command: &mut Command) {
     let Command { place, lent, .. } = command;
     let beyond = random.pick(&[1, 2, 1 << 31, usize::MAX / 2]);
@@ -117,7 +117,7 @@ fn damage(random: &mut Random, command: &mut Command) {
     }
 }
 
-/// Counts of any size, that need not belong to the lists.
+/// Counts of any size, whatever the lists are.
 fn arbitrary_place(random: &mut Random) -> Place {
     let mut count = || match random.below(4) {
         0 => 0,

@@ -1,4 +1,4 @@
-//! Tells the case that was running when a signal ends the program.
+//! Prints the number of the running case when a signal ends the program.
 
 use std::ffi::c_void;
 use std::sync::atomic::{AtomicUsize, Ordering};
@@ -18,16 +18,16 @@ extern "C" {
 
 static CASE: AtomicUsize = AtomicUsize::new(0);
 
-/// From here on a crash is told with the case's number.
+/// Arranges that a crash prints the number that `set_case` was last given.
 pub fn install() {
-    let action: extern "C" fn(i32) = tell_case;
+    let action: extern "C" fn(i32) = print_case;
     for number in [
         ILLEGAL_INSTRUCTION,
         BUS_ERROR,
         ARITHMETIC_ERROR,
         SEGMENTATION_FAULT,
     ] {
-        // SAFETY: the action is a signal handler, and calls only what one may call.
+        // SAFETY: the action calls only what a signal handler may call.
         unsafe { signal(number, action as usize) };
     }
 }
@@ -36,15 +36,15 @@ pub fn set_case(number: usize) {
     CASE.store(number, Ordering::Relaxed);
 }
 
-/// Writes the line and goes back to the instruction at fault, which now ends the program.
-extern "C" fn tell_case(signal_number: i32) {
+/// Returns to the instruction at fault, which then ends the program.
+extern "C" fn print_case(signal_number: i32) {
     let mut digits = [0; 20];
     let case = digits_of(CASE.load(Ordering::Relaxed), &mut digits);
     for part in [b"FAULT in case ", case, b"\n"] {
-        // SAFETY: the bytes are borrowed from above.
+        // SAFETY: pointer and length of a slice.
         unsafe { write(STANDARD_ERROR, part.as_ptr().cast(), part.len()) };
     }
-    // SAFETY: the system's own action.
+    // SAFETY: the action is the system's default.
     unsafe { signal(signal_number, DEFAULT_ACTION) };
 }
 

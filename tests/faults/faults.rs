@@ -1,15 +1,13 @@
-//! Puts arbitrary input through the library's three calls, with every lent buffer and struct alone
-//! between inaccessible pages, and compares answers and lists with the reference.
+//! Makes the library's calls on arbitrary input, with every lent buffer and struct alone between
+//! inaccessible pages, and compares answers and lists with the reference.
 //!
-//! `faults CASES [FIRST]`: cases are told by their numbers, from FIRST (0 if not given) on; a
-//! number that differs or crashes can be run again alone. Each case is run with every buffer's end
-//! against an inaccessible page, and again with every buffer's start. An access outside of what
-//! was lent, and a write to what is lent to be read, end the program.
+//! `faults CASES [FIRST]`: cases are numbered from FIRST (0 if not given) on, and `faults 1 NUMBER`
+//! runs one again. Each case is run twice: with the end of every buffer at an inaccessible page,
+//! and with its start there. An access outside the lent buffers ends the program, and so does a
+//! write to one that is lent to be read.
 
 mod command;
 mod crash;
-// The lengths here are the reference's.
-#[allow(dead_code)]
 #[path = "../../include/dinglefork.rs"]
 mod dinglefork;
 mod file;
@@ -17,7 +15,7 @@ mod pages;
 mod room;
 mod tally;
 
-// Parts of the reference are for the other tests.
+// Other tests use the rest of these.
 #[allow(dead_code)]
 #[path = "../sessions"]
 mod sessions {
@@ -62,7 +60,7 @@ fn main() {
     exit(i32::from(lacking));
 }
 
-/// Half of the cases are commands, and a third of the others arbitrary bytes.
+/// Half of the cases are commands; the others are session files, one in three of arbitrary bytes.
 fn check_case(number: usize, room: &mut Room, tally: &mut Tally) -> Result<(), String> {
     let mut random = Random::from_seed(number as u64);
     tally.cases += 1;
@@ -86,10 +84,11 @@ fn check_case(number: usize, room: &mut Room, tally: &mut Tally) -> Result<(), S
             tally.sessions[answered as usize] += 1;
         }
     }
-    Ok(())
+    check_refusal(number as u32 % 16, room)?;
+    check_refusal(random.edge_word(), room)
 }
 
-/// Lists for a session: any, or such as it fills exactly or nearly.
+/// Lists for a session: of any length, or of about the length that it fills.
 fn lists_for(file: &[u8], random: &mut Random) -> Lent {
     let lengths = match random.below(3) {
         0 => file::lengths(random),
@@ -139,6 +138,22 @@ fn check_pool(file: &[u8], lent: &Lent, room: &mut Room) -> Result<(), String> {
         let got = String::from_utf8_lossy(room.pool(file, lent, flush)?);
         same("the pool call", got.as_ref(), text.as_str())?;
         compare("the pool call", room, &expected)?;
+    }
+    Ok(())
+}
+
+/// A text of the refusal's own number where there is one, and nothing else in the room.
+fn check_refusal(number: u32, room: &mut Room) -> Result<(), String> {
+    let beginning = format!("refused {number}: ");
+    for flush in [Flush::End, Flush::Start] {
+        let text = String::from_utf8_lossy(room.refusal(number, flush)?);
+        let wanted = match number {
+            1..=13 => text.starts_with(&beginning),
+            _ => text.is_empty(),
+        };
+        if !wanted {
+            return Err(format!("the refusal call answers {text:?} for {number}"));
+        }
     }
     Ok(())
 }

@@ -1,14 +1,13 @@
-//! Arbitrary files, and arbitrary lengths of the lists lent with them.
+//! Arbitrary files, and arbitrary lengths of the lists that are lent with them.
 
 use crate::random::Random;
 use crate::reference::{Lengths, LENT_WORDS, LIMITS, LONGEST_FILE};
 use crate::room::MOST_BYTES;
 use crate::sheet::bytes_of_words;
 
-/// Words of the contents.
 const CONTENTS: usize = 12;
 
-/// Any bytes; half of the time the first of them are contents that fit.
+/// Any bytes; half of the time they begin with contents that fit.
 pub fn arbitrary(random: &mut Random) -> Vec<u8> {
     let length = match random.below(6) {
         0 => random.below(64),
@@ -27,8 +26,8 @@ pub fn arbitrary(random: &mut Random) -> Vec<u8> {
     bytes
 }
 
-/// Divides the words behind the contents among the bodies: within the limits, but for the last
-/// body, and commands in threes. Half of the time the commands are of small words.
+/// Divides the words behind the contents among the bodies: each within its limit, the last aside,
+/// and three words for each command. Half of the time the words of commands are small.
 fn put_contents(random: &mut Random, words: &mut [u32]) {
     let mut start = CONTENTS;
     for (body, limit) in LIMITS.into_iter().enumerate() {
@@ -48,7 +47,7 @@ fn put_contents(random: &mut Random, words: &mut [u32]) {
     }
 }
 
-/// Any lengths, mostly of enough words and of tables alike.
+/// Any lengths; most have enough words for a file and tables of one length.
 pub fn lengths(random: &mut Random) -> Lengths {
     let entries = random.below(200);
     let mut lengths = Lengths {

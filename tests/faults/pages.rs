@@ -1,11 +1,11 @@
-//! Buffers that stand alone: each in pages of its own, between pages that cannot be accessed.
+//! Buffers in pages of their own, each between pages that cannot be accessed.
 
 use std::ffi::c_void;
 use std::marker::PhantomData;
 use std::ops::Range;
 
 const PAGE: usize = 4_096;
-/// Pages on either side that are never opened: many, so that a stray access meets no other buffer.
+/// Inaccessible pages on either side: many, so that a stray access meets no other buffer.
 const GUARD: usize = 64;
 
 // Values of Linux.
@@ -26,22 +26,22 @@ extern "C" {
     fn mprotect(address: *mut c_void, length: usize, protection: i32) -> i32;
 }
 
-/// Which end of a buffer touches an inaccessible page exactly; the other end shares its last page
-/// with filler.
+/// Which end of a buffer is at an inaccessible page. Filler is beyond the other.
 #[derive(Clone, Copy, Debug)]
 pub enum Flush {
     Start,
     End,
 }
 
-/// What the rest of a buffer's pages is filled with.
+/// What fills the rest of a buffer's pages.
 const FILLER: u8 = 0xc3;
 
-/// Inaccessible pages, but for those that hold the buffer.
+/// Pages of which only those with the buffer can be accessed.
 pub struct Pages<T> {
     base: *mut u8,
-    /// Pages that a buffer may take.
+    /// Most pages that a buffer takes.
     most: usize,
+    /// Those that can be accessed.
     opened: Range<usize>,
     protection: i32,
     /// Where the buffer starts, in bytes from the base.
@@ -52,7 +52,7 @@ pub struct Pages<T> {
 }
 
 impl<T: Copy> Pages<T> {
-    /// Pages for a buffer of up to so many elements; empty at first.
+    /// For a buffer of at most this many elements; empty at first.
     pub fn up_to(elements: usize) -> Pages<T> {
         let most = (elements * size_of::<T>()).div_ceil(PAGE);
         let length = (GUARD + most + GUARD) * PAGE;
@@ -73,7 +73,7 @@ impl<T: Copy> Pages<T> {
         }
     }
 
-    /// Makes a copy of these elements the buffer, writable.
+    /// Makes the buffer a copy of these elements, which may be written.
     pub fn put(&mut self, content: &[T], flush: Flush) {
         let bytes = size_of_val(content);
         let pages = bytes.div_ceil(PAGE);
@@ -92,7 +92,7 @@ impl<T: Copy> Pages<T> {
         self.as_mut_slice().copy_from_slice(content);
     }
 
-    /// From here on a write to the buffer ends the program, until another is put there.
+    /// Lets a write to the buffer end the program, until the next is put there.
     pub fn forbid_writing(&mut self) {
         self.protect(self.opened.clone(), READ);
         self.protection = READ;
@@ -108,7 +108,7 @@ impl<T: Copy> Pages<T> {
     }
 
     fn protect(&self, pages: Range<usize>, protection: i32) {
-        // SAFETY: pages of our own, between the guards.
+        // SAFETY: pages that `up_to` made, between the guards.
         let failed = unsafe {
             let first = self.base.add(pages.start * PAGE).cast();
             !pages.is_empty() && mprotect(first, pages.len() * PAGE, protection) != 0
@@ -116,7 +116,7 @@ impl<T: Copy> Pages<T> {
         assert!(!failed, "the system protects pages");
     }
 
-    /// The opened bytes before the buffer and after it.
+    /// The bytes that can be accessed before the buffer and after it.
     fn rest(&self) -> [Range<usize>; 2] {
         let end = self.start + self.length * size_of::<T>();
         let Range { start, end: last } = self.opened;
@@ -126,10 +126,10 @@ impl<T: Copy> Pages<T> {
         }
     }
 
-    /// False if anything was written to the buffer's pages outside of it.
+    /// False if a byte of the buffer's pages was written outside the buffer.
     pub fn rest_is_untouched(&self) -> bool {
         self.rest().into_iter().all(|rest| {
-            // SAFETY: within the opened pages, which nothing borrows for writing now.
+            // SAFETY: within the opened pages; nothing borrows them to write now.
             let bytes =
                 unsafe { std::slice::from_raw_parts(self.base.add(rest.start), rest.len()) };
             bytes.iter().all(|&byte| byte == FILLER)
@@ -142,14 +142,14 @@ impl<T: Copy> Pages<T> {
     }
 
     pub fn as_mut_slice(&mut self) -> &mut [T] {
-        // SAFETY: as above, where `put` writes them; they are borrowed with these pages.
+        // SAFETY: as above; the elements are borrowed with these pages.
         unsafe { std::slice::from_raw_parts_mut(self.base.add(self.start).cast(), self.length) }
     }
 }
 
-/// For structs of pointers, lengths and counts.
+/// For structs whose fields are pointers, lengths and counts.
 impl Pages<usize> {
-    /// Makes this struct the buffer, writable.
+    /// Makes the buffer this struct, which may be written.
     pub fn put_struct<S>(&mut self, content: S, flush: Flush) -> &mut S {
         const { assert!(size_of::<S>() % size_of::<usize>() == 0) };
         const { assert!(align_of::<S>() == align_of::<usize>()) };

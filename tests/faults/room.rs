@@ -1,7 +1,7 @@
-//! Pages for every buffer and struct of the three calls, and the calls on them.
+//! Pages for every buffer and struct of the calls, and the calls on them.
 
 use crate::command::Command;
-use crate::dinglefork::{self, Answer, SessionAnswer, Tapes, TEXT};
+use crate::dinglefork::{self, Answer, SessionAnswer, Tapes, REFUSAL_TEXT, TEXT};
 use crate::pages::{Flush, Pages};
 use crate::reference::machine::Lent;
 use crate::{answers, lists};
@@ -15,9 +15,10 @@ pub struct Room {
     /// The lists that are written, in the order in which they are passed.
     written: [Pages<u32>; lists::COUNT],
     inputs: Pages<u32>,
-    /// Provider and miners 1 to 3.
+    /// Of the provider and miners 1 to 3.
     tapes: [Pages<u32>; 4],
     out: Pages<u8>,
+    refusal: Pages<u8>,
     structs: Structs,
 }
 
@@ -37,6 +38,7 @@ impl Room {
             inputs: list(),
             tapes: [(); 4].map(|_| list()),
             out: Pages::up_to(TEXT),
+            refusal: Pages::up_to(REFUSAL_TEXT),
             structs: Structs {
                 place: Pages::up_to(10),
                 tables: Pages::up_to(8),
@@ -55,7 +57,7 @@ impl Room {
         dinglefork::session(self.file.as_slice(), words, tables, lists)
     }
 
-    /// The text of `pool`; Err if the rest of its room, filled with a byte first, is touched.
+    /// The text of a session; Err if a byte of its room behind it was written.
     pub fn pool(&mut self, file: &[u8], lent: &Lent, flush: Flush) -> Result<&[u8], String> {
         const FILLER: u8 = 0x3c;
         self.put_written(lent, flush);
@@ -74,6 +76,19 @@ impl Room {
         match rest.iter().all(|&byte| byte == FILLER) {
             true => Ok(text),
             false => Err("bytes after the text are overwritten".to_string()),
+        }
+    }
+
+    /// The text of a refusal; Err if its room is not zero behind it or bytes around it were written.
+    pub fn refusal(&mut self, number: u32, flush: Flush) -> Result<&[u8], String> {
+        self.refusal.put(&[0x3c; REFUSAL_TEXT], flush);
+        let out = self.refusal.as_mut_slice().first_chunk_mut();
+        let out = out.expect("the text's room");
+        let length = dinglefork::refusal(number, out).len();
+        let (text, rest) = self.refusal.as_slice().split_at(length);
+        match rest.iter().all(|&byte| byte == 0) && self.refusal.rest_is_untouched() {
+            true => Ok(text),
+            false => Err("bytes behind a refusal's text are not as they should be".to_string()),
         }
     }
 
@@ -107,11 +122,11 @@ impl Room {
         }
     }
 
-    /// The first word in which a list, or what stands about it, is not as expected; or that a
-    /// struct of tables or lists is not as it was lent.
+    /// Err with the first list in which, or around which, a word is not as expected, or if a struct
+    /// of tables or lists is not as it was lent.
     pub fn compare(&self, expected: &Lent) -> Result<(), String> {
         if !self.structs_are_as_lent() {
-            return Err("a struct, or what stands about it, is overwritten".to_string());
+            return Err("a struct, or bytes around it, are overwritten".to_string());
         }
         for (i, want) in lists::of(expected).into_iter().enumerate() {
             let pages = &self.written[i];
@@ -120,7 +135,7 @@ impl Room {
         Ok(())
     }
 
-    /// All written lists but the words are in the structs, in the same order.
+    /// The structs have all written lists but the words for a file, in the same order.
     fn structs_are_as_lent(&self) -> bool {
         let structs = [&self.structs.tables, &self.structs.lists];
         let got = structs.into_iter().flat_map(|pages| pages.as_slice());

@@ -1,5 +1,5 @@
 #!/bin/sh
-# Puts arbitrary input through the library's calls, with every lent buffer between inaccessible pages.
+# Makes the library's calls on arbitrary input, with every lent buffer between inaccessible pages.
 # Run from the repository's root, when the library is built: `sh tests/faults/run.sh [CASES]`.
 set -eu
 

@@ -1,21 +1,21 @@
 //! How often each number was answered.
 
-/// From so many cases on, every number must have come up.
+/// A run of this many cases or more must have met every number and every code.
 const ENOUGH_TO_COUNT: usize = 10_000;
 
 #[derive(Default)]
 pub struct Tally {
     pub cases: usize,
-    /// Numbers 0 to 13 that sessions were answered with.
+    /// How many sessions each number, 0 to 13, answered.
     pub sessions: [usize; 14],
-    /// Numbers 0 to 13 that commands were answered with; 1 to 3 are for sessions alone.
+    /// How many commands each number answered; 1 to 3 are for sessions alone.
     pub commands: [usize; 14],
-    /// Accepted commands of codes 1 to 12.
+    /// How many commands of each code, 1 to 12, were accepted.
     pub accepted: [usize; 12],
 }
 
 impl Tally {
-    /// Whether a number or a code never came up in a long run.
+    /// Whether a long run has not met some number or code.
     pub fn is_lacking(&self) -> bool {
         let numbers = self.sessions.iter().chain(&self.commands[4..]);
         let mut counts = numbers.chain(&self.commands[..1]).chain(&self.accepted);

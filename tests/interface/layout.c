@@ -1,4 +1,4 @@
-/* The header's records have the library's layout. The compiler alone checks it, as C and as C++. */
+/* The header's records have the library's layout, and its numbers agree: checked by compiling. */
 #include <assert.h>
 #include <stddef.h>
 
@@ -55,3 +55,12 @@ IS_AT(dinglefork_lists, received1, 0, 16);
 IS_AT(dinglefork_lists, received2, 16, 16);
 IS_AT(dinglefork_lists, received3, 32, 16);
 IS_AT(dinglefork_lists, controller, 48, 16);
+
+/* The limits and the version, by what they are made of. */
+static_assert(4 * DINGLEFORK_CONTENTS == DINGLEFORK_CONTENTS_BYTES, "shortest file");
+static_assert(3 * DINGLEFORK_COMMANDS == DINGLEFORK_COMMAND_WORDS, "commands");
+static_assert(DINGLEFORK_CONTENTS + DINGLEFORK_COMMAND_WORDS + DINGLEFORK_INPUTS
+    + DINGLEFORK_PROVIDER_TAPE + 3 * DINGLEFORK_MINER_TAPE == DINGLEFORK_WORDS, "longest file");
+static_assert(4 * DINGLEFORK_WORDS == DINGLEFORK_BYTES, "longest file in bytes");
+static_assert(DINGLEFORK_VERSION == 100, "version");
+static_assert(sizeof(DINGLEFORK_VERSION_TEXT) == 6, "version in words");

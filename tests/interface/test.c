@@ -1,6 +1,6 @@
 /*
- * The three calls through the C header: document 01's worked session, its refusals, and empty
- * lists. Valid C99 and C++.
+ * The calls through the C header: the worked session, an example of each refusal, empty lists, and
+ * the texts of refusals. Valid C99 and C++.
  */
 #include <stdio.h>
 #include <string.h>
@@ -25,7 +25,7 @@ static void check(int holds, const char *condition, int line) {
     }
 }
 
-/* Everything that a call may write. */
+/* All that a call may write. */
 typedef struct buffers {
     uint32_t words[DINGLEFORK_WORDS];
     uint32_t share1[DINGLEFORK_ENTRIES];
@@ -78,7 +78,7 @@ static const uint32_t tape1[] = {10, 20, 70};
 static const uint32_t tape2[] = {30, 40, 80};
 static const uint32_t tape3[] = {50, 60, 90};
 
-/* The same as a session sheet: six starts and counts, then the bodies. */
+/* The same as a session file's words: each body's start and count, then the bodies. */
 static const uint32_t sheet[] = {
     12, 12, 24, 2, 26, 4, 30, 3, 33, 3, 36, 3,
     1, 0, 0, 1, 0, 0, 6, 1, 2, 11, 3, 0,
@@ -91,7 +91,7 @@ static const lengths all = {DINGLEFORK_WORDS, DINGLEFORK_ENTRIES, 2, 3, DINGLEFO
 static const dinglefork_place empty = {0, 0, {0, 0, 0, 0}, {0, 0, 0, 0}};
 static const dinglefork_place end = {3, 2, {4, 3, 3, 3}, {7, 7, 7, 3}};
 
-/* What a call is lent as structs. */
+/* The structs that a call is lent. */
 typedef struct structs {
     dinglefork_place place;
     dinglefork_tables tables;
@@ -239,7 +239,7 @@ static void refuses(uint32_t number, uint32_t code, uint32_t a, uint32_t b, leng
     CHECK(unchanged());
 }
 
-/* The examples of document 01's table, on two filled handles: a ring value and a bit word. */
+/* One example of each refusal of a command, on two filled handles: a ring value and a bit word. */
 static void refused_commands(void) {
     lengths full = all, no_inputs = all, no_tape = all, two_for_controller = all;
     full.entries = 2;
@@ -293,7 +293,7 @@ static void refused_files(void) {
     CHECK(memcmp(lent.out, "refused 3\n", 10) == 0);
 }
 
-/* ---- empty lists: each pointer leads somewhere, nothing is behind it */
+/* ---- empty lists: no pointer is null, but no element is behind it */
 
 static void empty_command(uint32_t number, uint32_t code, uint32_t a) {
     uint32_t none[1] = {FILLER};
@@ -323,6 +323,39 @@ static void empty_lists(void) {
     refuses_file(DINGLEFORK_REFUSED_FILE_LENGTH, file, 0, none);
 }
 
+/* ---- texts of refusals */
+
+/* The text is the front of its room, zero bytes fill the rest, and no byte behind it is written. */
+static void text_of(uint32_t number) {
+    uint8_t room[DINGLEFORK_REFUSAL_TEXT + 1];
+    char beginning[20] = "";
+    size_t length, i;
+    memset(room, 0xa5, sizeof room);
+    length = dinglefork_refusal(number, room);
+    if (number >= DINGLEFORK_REFUSED_FILE_LENGTH && number <= DINGLEFORK_REFUSED_RECEIVED_FULL) {
+        sprintf(beginning, "refused %u: ", (unsigned)number);
+        CHECK(length > strlen(beginning) && length < DINGLEFORK_REFUSAL_TEXT);
+    } else {
+        CHECK(length == 0);
+    }
+    CHECK(memcmp(room, beginning, strlen(beginning)) == 0);
+    for (i = 0; i < DINGLEFORK_REFUSAL_TEXT; i++) {
+        CHECK((room[i] != 0) == (i < length));
+    }
+    CHECK(room[DINGLEFORK_REFUSAL_TEXT] == 0xa5);
+}
+
+static void texts(void) {
+    uint32_t number;
+    for (number = 0; number <= 300; number++) {
+        text_of(number);
+        text_of(UINT32_MAX - number);
+        text_of((number << 8) | 7);
+        text_of((number << 16) | 7);
+        text_of((number << 24) | 7);
+    }
+}
+
 int main(void) {
     worked_by_commands();
     worked_by_session();
@@ -330,10 +363,12 @@ int main(void) {
     refused_commands();
     refused_files();
     empty_lists();
+    texts();
+    CHECK(dinglefork_version() == DINGLEFORK_VERSION);
     if (failures != 0) {
         fprintf(stderr, "%d checks failed\n", failures);
         return 1;
     }
-    puts("the " LANGUAGE " interface answers as document 01 has it");
+    puts("the " LANGUAGE " interface answers as it should");
     return 0;
 }

@@ -1,20 +1,22 @@
-//! The three calls through the safe Rust declarations: document 01's worked session, its refusals,
-//! and empty lists.
+//! The calls through the safe Rust declarations: the worked session, an example of each refusal,
+//! empty lists, and the texts of refusals. Valid in every edition from 2018 on.
 
 #[path = "../../include/dinglefork.rs"]
 mod dinglefork;
 
+use dinglefork::{code, kind, Refusal, ACCEPTED, VERSION};
 use dinglefork::{Answer, Drawn, Place, Received, SessionAnswer};
 use dinglefork::{List, Lists, Tables, Tape, Tapes};
-use dinglefork::{BYTES, ENTRIES, RECEIVED, TEXT, WORDS};
+use dinglefork::{BYTES, ENTRIES, INPUTS as MOST_INPUTS, RECEIVED, REFUSAL_TEXT, TEXT, WORDS};
 use std::mem::{offset_of, size_of};
 
 /// What the lists hold before a call.
 const FILLER: u32 = 0xa5a5_a5a5;
 
-const COMMANDS: [[u32; 3]; 4] = [[1, 0, 0], [1, 0, 0], [6, 1, 2], [11, 3, 0]];
+const STORE: [u32; 3] = [code::STORE, 0, 0];
+const COMMANDS: [[u32; 3]; 4] = [STORE, STORE, [code::MULTIPLY, 1, 2], [code::OPEN, 3, 0]];
 const INPUTS: [u32; 2] = [7, 5];
-/// Provider and miners 1 to 3.
+/// Of the provider and miners 1 to 3.
 const TAPES: [&[u32]; 4] = [&[1, 2, 3, 4], &[10, 20, 70], &[30, 40, 80], &[50, 60, 90]];
 
 /// Where the worked session ends.
@@ -35,7 +37,7 @@ const END: Place = Place {
     },
 };
 
-/// Everything that is lent and written.
+/// All lists that a call may write.
 #[derive(Clone, PartialEq)]
 struct Buffers {
     words: Vec<u32>,
@@ -53,7 +55,7 @@ impl Buffers {
         }
     }
 
-    /// The lengths that every session can do with.
+    /// Lists that are long enough for every session.
     fn ample() -> Buffers {
         Buffers::new(WORDS, ENTRIES, RECEIVED)
     }
@@ -120,7 +122,9 @@ fn main() {
     refused_commands();
     refused_files();
     empty_lists();
-    println!("the Rust interface answers as document 01 has it");
+    texts();
+    assert_eq!(dinglefork::version(), VERSION);
+    println!("the Rust interface answers as it should");
 }
 
 fn layouts() {
@@ -156,15 +160,15 @@ fn lists_as_slices() {
 
 // ---- the worked session
 
-/// Its words: six starts and counts, then the bodies.
+/// Its words: each body's start and count, then the bodies.
 fn worked_words() -> Vec<u32> {
     let commands = COMMANDS.concat();
     let [provider, one, two, three] = TAPES;
     let bodies = [&commands, &INPUTS[..], provider, one, two, three];
     let mut words = Vec::new();
     let mut start = 12;
-    for body in bodies {
-        words.extend([start, body.len() as u32]);
+    for body in &bodies {
+        words.extend(&[start, body.len() as u32]);
         start += body.len() as u32;
     }
     words.extend(bodies.concat());
@@ -193,9 +197,10 @@ fn check_lists(buffers: &Buffers) {
 fn worked_by_commands() {
     let mut buffers = Buffers::ample();
     let mut place = Place::default();
-    for (command, opened) in COMMANDS.into_iter().zip([0, 0, 0, 35]) {
-        let answer = buffers.command(command, place, &INPUTS, TAPES);
-        assert_eq!((answer.number, answer.opened), (0, opened));
+    for (command, opened) in COMMANDS.iter().zip(&[0, 0, 0, 35]) {
+        let answer = buffers.command(*command, place, &INPUTS, TAPES);
+        assert_eq!((answer.number, answer.opened), (ACCEPTED, *opened));
+        assert_eq!(answer.refusal(), None);
         place = answer.place;
     }
     assert_eq!(place, END);
@@ -206,16 +211,8 @@ fn worked_by_session() {
     let words = worked_words();
     let mut buffers = Buffers::ample();
     let answer = buffers.session(&bytes_of(&words));
-    let (done, number) = (4, 0);
-    let place = END;
-    assert_eq!(
-        answer,
-        SessionAnswer {
-            done,
-            place,
-            number
-        }
-    );
+    assert_eq!((answer.done, answer.place), (4, END));
+    assert_eq!((answer.number, answer.refusal()), (ACCEPTED, None));
     assert_eq!(buffers.words[..words.len()], words);
     assert_eq!(buffers.words[words.len()], FILLER);
     check_lists(&buffers);
@@ -227,62 +224,72 @@ fn worked_by_session() {
 
 // ---- refusals
 
-/// The command, on two filled handles, is refused with this number and changes nothing.
-fn refuses(number: u32, command: [u32; 3], inputs: &[u32], tapes: [&[u32]; 4], buffers: &Buffers) {
+/// The command, on two filled handles, is refused and changes nothing.
+fn refuses(
+    refusal: Refusal,
+    command: [u32; 3],
+    inputs: &[u32],
+    tapes: [&[u32]; 4],
+    buffers: &Buffers,
+) {
     let place = Place {
         handles: 2,
         ..Place::default()
     };
     let mut after = buffers.clone();
     let answer = after.command(command, place, inputs, tapes);
-    assert_eq!((answer.number, answer.opened), (number, 0));
+    assert_eq!((answer.refusal(), answer.opened), (Some(refusal), 0));
     assert_eq!(answer.place, place);
     assert!(after == *buffers);
 }
 
-/// The examples of document 01's table, on a ring value and a bit word.
+/// One example of each refusal of a command, on a ring value and a bit word.
 fn refused_commands() {
     let mut lent = Buffers::new(0, 3, 30);
-    lent.tables[3][..2].copy_from_slice(&[1, 2]);
-    refuses(5, [0, 0, 0], &INPUTS, TAPES, &lent);
-    refuses(6, [1, 0, 7], &INPUTS, TAPES, &lent);
-    refuses(7, [2, 0, 1], &INPUTS, TAPES, &lent);
-    refuses(8, [11, 2, 0], &INPUTS, TAPES, &lent);
-    refuses(9, [9, 2, 32], &INPUTS, TAPES, &lent);
-    refuses(11, [1, 0, 0], &[], TAPES, &lent);
+    lent.tables[3][..2].copy_from_slice(&[kind::RING, kind::BIT_WORD]);
+    let of_lent = |refusal, command| refuses(refusal, command, &INPUTS, TAPES, &lent);
+    of_lent(Refusal::Code, [0, 0, 0]);
+    of_lent(Refusal::UnusedField, [code::STORE, 0, 7]);
+    of_lent(Refusal::Handle, [code::ADD, 0, 1]);
+    of_lent(Refusal::Kind, [code::OPEN, 2, 0]);
+    of_lent(Refusal::Position, [code::BIT, 2, 32]);
+    refuses(Refusal::InputsUsed, STORE, &[], TAPES, &lent);
     let [provider, one, _, three] = TAPES;
-    refuses(12, [7, 1, 0], &INPUTS, [provider, one, &[], three], &lent);
+    let (reshare, tapes) = ([code::RESHARE, 1, 0], [provider, one, &[], three]);
+    refuses(Refusal::TapeSpent, reshare, &INPUTS, tapes, &lent);
     let mut full = lent.clone();
     full.tables.iter_mut().for_each(|table| table.truncate(2));
-    refuses(10, [1, 0, 0], &INPUTS, TAPES, &full);
+    refuses(Refusal::TablesFull, STORE, &INPUTS, TAPES, &full);
     let mut short = lent.clone();
     short.lists[3].truncate(2);
-    refuses(13, [11, 1, 0], &INPUTS, TAPES, &short);
+    let open = [code::OPEN, 1, 0];
+    refuses(Refusal::ReceivedFull, open, &INPUTS, TAPES, &short);
     lent.tables[3][0] = 3;
-    refuses(4, [1, 0, 0], &INPUTS, TAPES, &lent);
+    refuses(Refusal::Lent, STORE, &INPUTS, TAPES, &lent);
 }
 
-/// The file is refused as a whole with this number, and no list changes.
-fn refuses_file(number: u32, file: &[u8], buffers: &Buffers) {
+/// The file is refused as a whole, and no list changes.
+fn refuses_file(refusal: Refusal, file: &[u8], buffers: &Buffers) {
     let mut after = buffers.clone();
     let answer = after.session(file);
-    assert_eq!((answer.done, answer.number), (0, number));
+    assert_eq!((answer.done, answer.refusal()), (0, Some(refusal)));
     assert_eq!(answer.place, Place::default());
     assert!(after == *buffers);
-    assert_eq!(after.pool(file), format!("refused {number}\n"));
+    assert_eq!(after.pool(file), format!("refused {}\n", refusal.number()));
     assert!(after == *buffers);
 }
 
 fn refused_files() {
     let lent = Buffers::ample();
     let mut file = bytes_of(&worked_words());
-    refuses_file(1, &file[..47], &lent);
-    refuses_file(4, &file, &Buffers::new(WORDS - 1, ENTRIES, RECEIVED));
+    refuses_file(Refusal::FileLength, &file[..47], &lent);
+    let word_too_few = Buffers::new(WORDS - 1, ENTRIES, RECEIVED);
+    refuses_file(Refusal::Lent, &file, &word_too_few);
     file[0] = 13;
-    refuses_file(2, &file, &lent);
+    refuses_file(Refusal::Contents, &file, &lent);
     let contents = [12, 0, 12, 129, 141, 0, 141, 0, 141, 0, 141, 0];
-    let words = [&contents[..], &[0; 129]].concat();
-    refuses_file(3, &bytes_of(&words), &lent);
+    let words = [&contents[..], &[0; MOST_INPUTS + 1]].concat();
+    refuses_file(Refusal::Limit, &bytes_of(&words), &lent);
     assert_eq!(lent.clone().pool(&[0; BYTES + 1]), "refused 3\n");
 }
 
@@ -291,11 +298,40 @@ fn refused_files() {
 fn empty_lists() {
     let mut lent = Buffers::new(0, 0, 0);
     let tapes: [&[u32]; 4] = [&[]; 4];
-    let store = lent.command([1, 0, 0], Place::default(), &[], tapes);
-    assert_eq!((store.number, store.place), (10, Place::default()));
-    let open = lent.command([11, 1, 0], Place::default(), &[], tapes);
-    assert_eq!((open.number, open.place), (7, Place::default()));
-    refuses_file(1, &[], &lent);
+    let store = lent.command(STORE, Place::default(), &[], tapes);
+    assert_eq!(store.refusal(), Some(Refusal::TablesFull));
+    assert_eq!(store.place, Place::default());
+    let open = lent.command([code::OPEN, 1, 0], Place::default(), &[], tapes);
+    assert_eq!(open.refusal(), Some(Refusal::Handle));
+    assert_eq!(open.place, Place::default());
+    refuses_file(Refusal::FileLength, &[], &lent);
     let contents = bytes_of(&[12, 0].repeat(6));
     assert_eq!(Buffers::new(WORDS, 0, 0).pool(&contents), "end 0 0 0 0 0\n");
+}
+
+// ---- texts of refusals
+
+/// The text is the front of its room, and zero bytes fill the rest.
+fn text_of(number: u32) -> String {
+    let mut room = [0xa5; REFUSAL_TEXT];
+    let text = dinglefork::refusal(number, &mut room).to_string();
+    assert_eq!(room[..text.len()], *text.as_bytes());
+    assert!(room[text.len()..].iter().all(|&byte| byte == 0));
+    text
+}
+
+fn texts() {
+    for number in (0..=300).chain(u32::MAX - 300..=u32::MAX) {
+        let text = text_of(number);
+        match Refusal::of_number(number) {
+            Some(refusal) => {
+                assert_eq!(refusal.number(), number);
+                assert_eq!(refusal.to_string(), text);
+                assert!(text.starts_with(&format!("refused {}: ", number)));
+            }
+            None => assert!(text.is_empty() && !(1..=13).contains(&number)),
+        }
+    }
+    let numbers = Refusal::ALL.iter().map(|refusal| refusal.number());
+    assert!(numbers.eq(1..=13));
 }

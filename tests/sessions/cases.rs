@@ -1,4 +1,4 @@
-//! The named session files of the test program, and the four lendings it runs each under.
+//! The named session files of the test program, and the lengths of the lists that it lends to each.
 
 mod clinics;
 mod contents;
@@ -12,7 +12,7 @@ use crate::reference::machine::{row_of, MULTIPLY, OPEN, STORE};
 use crate::reference::{Lengths, POOL_LENGTHS};
 use crate::sheet::Sheet;
 
-/// One named file, and the number that it is answered with under the program's lending.
+/// A named file, and the number that answers it on the lists of `pool`.
 pub struct Case {
     pub name: String,
     pub number: u32,
@@ -26,7 +26,7 @@ pub struct Cases {
 }
 
 impl Cases {
-    /// Adds a file as it stands.
+    /// Adds a file of these bytes.
     fn file(&mut self, name: &str, number: u32, bytes: Vec<u8>) {
         let name = name.to_string();
         self.list.push(Case {
@@ -46,7 +46,7 @@ impl Cases {
 /// All cases, in the order in which the test program runs them.
 pub fn all() -> Vec<Case> {
     let mut cases = Cases::default();
-    // M1 to M4: 7 and 5 are stored, multiplied, and the product 35 opened.
+    // Worked cases 1 to 4: 7 and 5 are stored and multiplied, and the product 35 is opened.
     cases.file("worked", 0, worked().bytes());
     // Contents only: no command, no input, no tape.
     cases.file("empty", 0, Sheet::default().bytes());
@@ -59,7 +59,7 @@ pub fn all() -> Vec<Case> {
     cases.list
 }
 
-/// The lendings, in order: the program's own; 'small'; a word too few; a kind list too short.
+/// Lists of four lengths: those of `pool`; 'small' ones; a lent word too few; a kind list too short.
 pub fn lendings() -> [Lengths; 4] {
     let small = Lengths {
         shares: [1; 3],
@@ -78,7 +78,7 @@ pub fn lendings() -> [Lengths; 4] {
     [POOL_LENGTHS, small, word_too_few, kinds_too_short]
 }
 
-/// The session of M1 to M4, with the tapes that document 01 gives.
+/// The session of worked cases 1 to 4. Specification: Worked sessions.
 pub fn worked() -> Sheet {
     Sheet {
         commands: vec![[STORE, 0, 0], [STORE, 0, 0], [MULTIPLY, 1, 2], [OPEN, 3, 0]],
@@ -92,7 +92,7 @@ pub fn worked() -> Sheet {
     }
 }
 
-/// A sheet with random tapes, told by the name, that are used up when all commands are done.
+/// A sheet with random tapes, the same for each name, that are used up when all commands are done.
 pub fn exact_sheet(name: &str, commands: &[[u32; 3]], inputs: &[u32]) -> Sheet {
     let mut random = seeded(name);
     let drawn = |tape: usize| {
@@ -106,7 +106,7 @@ pub fn exact_sheet(name: &str, commands: &[[u32; 3]], inputs: &[u32]) -> Sheet {
     }
 }
 
-/// A generator that is told by a name (FNV-1a), so that a named file never changes.
+/// A generator seeded with a name (FNV-1a), so that a named file never changes.
 fn seeded(name: &str) -> Random {
     let seed = name.bytes().fold(0xcbf2_9ce4_8422_2325, |hash: u64, byte| {
         (hash ^ u64::from(byte)).wrapping_mul(0x0100_0000_01b3)

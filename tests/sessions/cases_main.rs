@@ -1,13 +1,13 @@
 //! Writes the test program's named session files and what it must print.
 //!
 //! `cases_main DIR` writes DIR/data/NAME, DIR/args (the names) and DIR/stdout.
-//! `cases_main --self-check` checks the reference against what was reckoned by hand.
+//! `cases_main --self-check` checks the reference against the worked cases.
 
 mod cases;
 mod random;
-mod reckoned;
 mod reference;
 mod registers;
+mod self_check;
 mod sheet;
 
 use std::path::Path;
@@ -17,8 +17,8 @@ fn main() -> io::Result<()> {
     let arguments: Vec<String> = std::env::args().skip(1).collect();
     match arguments.as_slice() {
         [option] if option == "--self-check" => {
-            reckoned::check();
-            println!("reckoned cases hold");
+            self_check::check();
+            println!("worked cases hold");
             Ok(())
         }
         [directory] => write_cases(Path::new(directory)),

@@ -1,7 +1,7 @@
 //! Compares the engine and the program `pool` with the reference on many seeded sessions.
 //!
-//! `differential SESSIONS PATH_OF_POOL [FIRST]`: sessions are told by their numbers, from FIRST
-//! (0 if not given) on; a number that differs can be run again alone.
+//! `differential SESSIONS PATH_OF_POOL [FIRST]`: each session is made from its number, the first
+//! being FIRST (0 if not given), so that one that differs can be run again alone.
 
 mod answers;
 // The command call is tested in tests/interface and tests/faults.
@@ -28,7 +28,7 @@ use registers::Registers;
 
 /// Fewest answers of each number, in so many sessions.
 const FEWEST: (usize, usize) = (50, 20_000);
-/// From so many sessions on, the numbers' shares are looked at.
+/// With fewer sessions the counts are not checked.
 const ENOUGH_TO_COUNT: usize = 1_000;
 const THREADS: usize = 2;
 
@@ -59,7 +59,7 @@ fn main() {
     report(sessions, &tallies);
 }
 
-/// Runs every second session and stops at the first difference, told on standard output.
+/// Runs every second session and stops at the first difference, which it prints.
 fn run_share(
     first: usize,
     sessions: usize,
@@ -130,7 +130,7 @@ fn run_pool(path: &str, file: &[u8]) -> Result<Vec<u8>, String> {
         .map_err(|error| format!("{path} does not start: {error}"))?;
     let mut input = child.stdin.take().expect("standard input is piped");
     match input.write_all(file) {
-        // A program that has seen enough may leave the rest unread.
+        // The program may leave the rest unread.
         Err(error) if error.kind() != ErrorKind::BrokenPipe => return Err(error.to_string()),
         _ => drop(input),
     }
@@ -143,7 +143,7 @@ fn run_pool(path: &str, file: &[u8]) -> Result<Vec<u8>, String> {
     }
 }
 
-/// The reference itself against the plain register machine.
+/// The reference against the plain register machine.
 fn agrees_with_registers(outcome: &Outcome, lent: &Lent) -> Result<(), String> {
     if outcome.done == 0 {
         return Ok(());

@@ -44,7 +44,7 @@ pub fn session(file: &[u8], guarded: &mut Guarded) -> SessionAnswer {
     dinglefork::session(file, words, &mut tables, &mut lists)
 }
 
-/// The text of `pool`, whose room is filled with a byte first; Err if the rest of it is touched.
+/// The text of `pool`, in room filled with a byte before; Err if the rest of the room was written.
 pub fn pool(file: &[u8], guarded: &mut Guarded, filler: u8) -> Result<Vec<u8>, String> {
     let mut room = vec![filler; TEXT + 2 * GUARD.len()];
     let out = room[GUARD.len()..].first_chunk_mut::<TEXT>();

@@ -11,7 +11,7 @@ use crate::reference::machine::{
 use crate::reference::LIMITS;
 use crate::sheet::Sheet;
 
-/// How often codes 1 to 12 are tried, beside each other: opens, bit and stores more often.
+/// How often codes 1 to 12 are tried, in proportion: opens, bit and stores more often.
 const OFTEN: [usize; 12] = [3, 2, 2, 1, 1, 2, 1, 2, 3, 2, 4, 2];
 
 /// Codes that leave a field unused.
@@ -138,7 +138,7 @@ impl Draft {
         }
     }
 
-    /// Bodies as long as the commands need, a little longer, or one of them a little too short.
+    /// Bodies as long as the commands need or a little longer; sometimes one a little too short.
     fn sheet(&self, random: &mut Random) -> Sheet {
         let needs = |tape: usize| -> usize {
             let rows = self

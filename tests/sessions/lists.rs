@@ -17,7 +17,7 @@ const NAMES: [&str; COUNT] = [
     "the controller's list",
 ];
 
-/// Of the reference.
+/// Those of the reference.
 pub fn of(lent: &Lent) -> [&Vec<u32>; COUNT] {
     let [share1, share2, share3] = &lent.shares;
     let [received1, received2, received3, controller] = &lent.received;
@@ -34,7 +34,7 @@ pub fn of(lent: &Lent) -> [&Vec<u32>; COUNT] {
     ]
 }
 
-/// As the library takes them.
+/// In the form in which the library takes them.
 pub fn lend(lists: [&mut [u32]; COUNT]) -> (&mut [u32], Tables<'_>, Lists<'_>) {
     let [words, share1, share2, share3, kinds, one, two, three, controller] = lists;
     let tables = Tables {
@@ -52,7 +52,7 @@ pub fn lend(lists: [&mut [u32]; COUNT]) -> (&mut [u32], Tables<'_>, Lists<'_>) {
     (words, tables, lists)
 }
 
-/// The first word in which a list is not as expected, or that words about it were written.
+/// The first word in which a list is not as expected, or that words beside it were written.
 pub fn compare(list: usize, got: &[u32], want: &[u32], rest_untouched: bool) -> Result<(), String> {
     let name = NAMES[list];
     if !rest_untouched {

@@ -5,7 +5,7 @@ pub struct Random {
 }
 
 impl Random {
-    /// Any seed will do: the mixing keeps neighbouring seeds apart and the state nonzero.
+    /// Takes any seed: mixing keeps neighbouring seeds apart and the state nonzero.
     pub fn from_seed(seed: u64) -> Random {
         let mixed = (seed ^ 0x9e37_79b9_7f4a_7c15).wrapping_mul(0xbf58_476d_1ce4_e5b9);
         let mixed = (mixed ^ (mixed >> 31)).wrapping_mul(0x94d0_49bb_1331_11eb);

@@ -1,18 +1,19 @@
-//! The three-miner pooling engine, written a second time from the papers alone, to test by.
+//! The reference: the engine written a second time from docs/SPECIFICATION.md for clarity.
+//! It shares no code with the engine under test.
 //!
-//! This file has the session call and the text of `pool`; below it stand the command machine
-//! and, lowest, the protocols. Clarity first: nothing here is shared with the engine under test.
+//! This file has the session call and the text of `pool`. They stand on the command machine, and
+//! that stands on the protocols.
 
 pub mod machine;
 pub mod protocols;
 
 use machine::{Bodies, Lent, Place};
 
-/// "The caller lends 7,692 words for the whole file."
+/// The fewest words that a caller lends for the file's. Specification: Sessions.
 pub const LENT_WORDS: usize = 7_692;
-/// "Over 30,768 bytes, the longest legal file."
+/// In bytes. Specification: Limits.
 pub const LONGEST_FILE: usize = 30_768;
-/// "Most words allowed": commands, inputs, provider tape, tapes 1 to 3.
+/// Most words of each body, in the order of the contents. Specification: Limits.
 pub const LIMITS: [usize; 6] = [384, 128, 256, 2_304, 2_304, 2_304];
 
 /// How long the lent lists are.
@@ -25,7 +26,7 @@ pub struct Lengths {
     pub received: [usize; 4],
 }
 
-/// "It starts with tables of 128 entries, all zero, and received lists of 3,584 words."
+/// The lists of the program. Specification: Program.
 pub const POOL_LENGTHS: Lengths = Lengths {
     words: LENT_WORDS,
     shares: [128; 3],
@@ -34,7 +35,7 @@ pub const POOL_LENGTHS: Lengths = Lengths {
 };
 
 impl Lengths {
-    /// Lists of these lengths, each filled by the caller's rule.
+    /// Lists of these lengths, each made by the caller's function.
     pub fn lend(&self, mut list: impl FnMut(usize) -> Vec<u32>) -> Lent {
         Lent {
             words: list(self.words),
@@ -58,7 +59,7 @@ pub struct Outcome {
     pub opened: Vec<(u32, u32)>,
 }
 
-/// Runs a session "from an empty place record"; it "stops at the first refused command".
+/// Runs a session up to its first refusal. Specification: Sessions.
 pub fn session(file: &[u8], lent: &mut Lent) -> Outcome {
     let mut outcome = Outcome {
         number: session_refusal(file, lent),
@@ -89,9 +90,9 @@ pub fn session(file: &[u8], lent: &mut Lent) -> Outcome {
     outcome
 }
 
-/// The text that `pool` prints for a file.
+/// The text that `pool` prints for a file. Specification: Lines; Program.
 pub fn pool_text(file: &[u8], lent: &mut Lent) -> String {
-    // "it prints `refused 3`, even where 1 or 2 applies"
+    // Even if number 1 or 2 applies too.
     if file.len() > LONGEST_FILE {
         return "refused 3\n".to_string();
     }
@@ -111,7 +112,8 @@ pub fn pool_text(file: &[u8], lent: &mut Lent) -> String {
 
 // ---- reading the sheet
 
-/// Numbers 1 to 4, the lowest that applies, told from the file's bytes and the lent lengths.
+/// The lowest of numbers 1 to 4 that applies to the session, 0 if none does.
+/// Specification: Table of refusals; Order of refusals.
 fn session_refusal(file: &[u8], lent: &Lent) -> u32 {
     if file.len() < 48 || file.len() % 4 != 0 {
         return 1;
@@ -131,7 +133,7 @@ fn session_refusal(file: &[u8], lent: &Lent) -> u32 {
     0
 }
 
-/// "A file of words, each four bytes, lowest first."
+/// Specification: Sheet file.
 fn words_of(file: &[u8]) -> Vec<u32> {
     file.chunks_exact(4)
         .map(|bytes| u32::from_le_bytes([bytes[0], bytes[1], bytes[2], bytes[3]]))
@@ -146,8 +148,7 @@ fn contents(words: &[u32]) -> [(u64, u64); 6] {
     })
 }
 
-/// "The first start is 12; each next is the last start plus count, added without wrapping; the
-/// last body ends the file."
+/// Whether the bodies follow one another from word 12 to the file's end. Specification: Contents.
 fn keeps_contents_rule(contents: &[(u64, u64); 6], file_words: usize) -> bool {
     let mut due = 12;
     for (start, count) in contents {

@@ -1,4 +1,5 @@
-//! The plain register machine: what every handle's shares must combine to.
+//! The plain register machine: the words that the shares of each handle have to combine to.
+//! Specification: Registers; Opened words.
 
 use crate::reference::machine::{
     Lent, ADD, ADD_CONSTANT, BELOW, BIT, BITS, BIT_WORD, EQUAL, MULTIPLY, OPEN, RESHARE, RING,
@@ -6,7 +7,7 @@ use crate::reference::machine::{
 };
 use crate::reference::protocols::{bit_word, ring_word};
 
-/// Registers (word, kind) and the opened words after accepted commands from the empty place.
+/// Registers (word, kind) and opened words after accepted commands from the empty place record.
 #[derive(Default)]
 pub struct Registers {
     pub values: Vec<(u32, u32)>,
@@ -15,7 +16,7 @@ pub struct Registers {
 }
 
 impl Registers {
-    /// The machine after these accepted commands; no tape word is looked at.
+    /// The machine after these accepted commands; it reads no tape.
     pub fn after(commands: &[u32], inputs: &[u32]) -> Registers {
         let mut registers = Registers::default();
         for command in commands.chunks_exact(3) {
@@ -47,7 +48,7 @@ impl Registers {
         }
     }
 
-    /// The first handle whose shares or kind do not give the register, if there is one.
+    /// The first entry whose shares or kind differ from the register, if there is one.
     pub fn first_unlike(&self, lent: &Lent) -> Option<usize> {
         (0..self.values.len()).find(|&entry| {
             let shares = [0, 1, 2].map(|i| lent.shares[i][entry]);

@@ -1,4 +1,4 @@
-//! Writes session sheets: six bodies behind their contents, words lowest byte first.
+//! Writes session sheets. Specification: Sheet file; Contents.
 
 /// The bodies of a session, in the order of the contents.
 #[derive(Clone, Default)]
@@ -28,7 +28,7 @@ impl Sheet {
     }
 }
 
-/// "The first start is 12; each next is the last start plus count."
+/// The contents, with each body starting where the one before it ends, and the bodies.
 pub fn words_of_bodies(bodies: &[Vec<u32>; 6]) -> Vec<u32> {
     let mut contents = Vec::new();
     let mut start = 12;
@@ -40,7 +40,7 @@ pub fn words_of_bodies(bodies: &[Vec<u32>; 6]) -> Vec<u32> {
     contents
 }
 
-/// "A file of words, each four bytes, lowest first."
+/// Four bytes for each word, the lowest byte first.
 pub fn bytes_of_words(words: &[u32]) -> Vec<u8> {
     words.iter().flat_map(|word| word.to_le_bytes()).collect()
 }

@@ -1,4 +1,4 @@
-//! A case: its lists are read, its commands run, and what they leave is printed.
+//! A case: its lists are read, its commands are run, and the lists that they leave are printed.
 use crate::run;
 use crate::run::Supplied;
 use crate::scan::Scanner;
@@ -10,7 +10,7 @@ use std::io::Write;
 // The most words of a list, and of inputs and tapes together.
 const ROOM: usize = 1024;
 
-// A list on a line, whole, the unfilled part too: so a word written where none is due shows.
+// Prints a list whole on a line, so that a word written where none is due shows.
 fn print_list(out: &mut impl Write, name: &str, list: &[u32]) -> io::Result<()> {
     write!(out, "{name}")?;
     for word in list {
@@ -19,7 +19,7 @@ fn print_list(out: &mut impl Write, name: &str, list: &[u32]) -> io::Result<()> 
     writeln!(out)
 }
 
-// The share tables and the kinds.
+// Reads the share tables and the kind list, runs the commands, and prints these lists.
 fn with_tables(
     out: &mut impl Write,
     text: &mut Scanner,
@@ -43,7 +43,7 @@ fn with_tables(
     print_list(out, "kinds", tables.kinds)
 }
 
-// The received lists.
+// Reads the received lists, goes on with the tables, and prints the received lists.
 fn with_lists(out: &mut impl Write, text: &mut Scanner, supplied: Supplied) -> io::Result<()> {
     let mut one = [0u32; ROOM];
     let mut two = [0u32; ROOM];
@@ -62,7 +62,7 @@ fn with_lists(out: &mut impl Write, text: &mut Scanner, supplied: Supplied) -> i
     print_list(out, "controller", lists.controller)
 }
 
-// Runs a case, which begins with the line that names it. The lists that its commands only read stand in one array.
+// Runs a case, whose first line is its name. The lists that its commands only read share one array.
 pub(crate) fn run_case(out: &mut impl Write, text: &mut Scanner) -> io::Result<()> {
     out.write_all(text.line())?;
     writeln!(out)?;

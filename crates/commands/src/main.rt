@@ -9,7 +9,7 @@ use scan::Scanner;
 use std::io;
 use std::io::Write;
 
-// Runs the cases of a text, which begins with their number.
+// Runs the cases of a text, whose first number is how many they are.
 fn run_cases(out: &mut impl Write, text: &[u8]) -> io::Result<()> {
     let mut text = Scanner::new(text);
     for _ in 0..text.count() {

@@ -1,4 +1,4 @@
-//! A case's commands, one after the other, each given what the last one left.
+//! The commands of a case, each on the lists and the place record that the one before it left.
 use crate::scan::Scanner;
 use machine::answer::Answer;
 use machine::code::Command;
@@ -9,14 +9,14 @@ use protocols::place::Place;
 use std::io::Write;
 use std::{array, io};
 
-// What a case's commands only read.
+// The lists that a case's commands only read.
 #[derive(Clone, Copy)]
 pub struct Supplied<'a> {
     pub inputs: &'a [u32],
     pub tapes: Tapes<'a>,
 }
 
-// Runs the next command, and answers the place record that it leaves.
+// Runs the next command, prints its answer, and answers the place record after it.
 fn step(
     out: &mut impl Write,
     text: &mut Scanner,
@@ -45,7 +45,7 @@ fn step(
     Ok(place)
 }
 
-// All commands of a case, refused ones among them.
+// Runs all commands of a case, past refused ones.
 pub(crate) fn run(
     out: &mut impl Write,
     text: &mut Scanner,

@@ -1,5 +1,5 @@
-//! Reads the text of the cases: numbers, and words that are there for the reader.
-//! A number ends where its digits end, and a list goes on over the end of a line.
+//! Reads the text of the cases: numbers, and words that only explain them.
+//! A number ends where its digits end, and a list may go over several lines.
 ghost use Rattle.std.specs.Prelude.{◌≡◌, ◌++◌};
 
 // What is still to be read.
@@ -25,7 +25,7 @@ impl<'a> Scanner<'a> {
         Scanner { rest: text }
     }
 
-    // Takes what stands before the first byte that ends it, or all that is left.
+    // Takes the text before the first byte that ends it, or all that is left.
     fn until<F: FnMut(&u8) -> bool>(&mut self, ends: F) -> &'a [u8]
         requires { F.IsAlwaysCallable ends }
         ensures { self.old.rest.now ≡ result.now ++ self.new.rest.now }
@@ -37,7 +37,7 @@ impl<'a> Scanner<'a> {
         read
     }
 
-    // The next number. A digit within a word, as in tape1, begins none.
+    // The next number. A digit within a word, as in tape1, does not begin one.
     pub(crate) fn number(&mut self) -> u64 {
         let mut within = false;
         self.until(|byte| {
@@ -58,8 +58,8 @@ impl<'a> Scanner<'a> {
         self.number() as usize
     }
 
-    // A list: its count, then its words, which go to the front of the room, as many as it holds. Answers these and the
-    // room behind them.
+    // Reads a list, its count and then its words, to the front of the room, as many as it holds. Answers the list and
+    // the room behind it.
     pub(crate) fn list<'b>(&mut self, room: &'b mut [u32]) -> (&'b mut [u32], &'b mut [u32]) {
         let words = self.count().min(room.len());
         let (list, behind) = room.split_at_mut(words);
@@ -69,7 +69,7 @@ impl<'a> Scanner<'a> {
         (list, behind)
     }
 
-    // The next line that is not empty. Past the text's end there is an empty one.
+    // The next line that is not empty, or an empty one at the text's end.
     pub(crate) fn line(&mut self) -> &'a [u8] {
         self.until(|byte| *byte != b'\n');
         self.until(|byte| *byte == b'\n')

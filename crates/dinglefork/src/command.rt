@@ -1,4 +1,4 @@
-//! The call of one command.
+//! The call for one command; Specification: Accepted commands.
 ghost use Rattle.std.specs.Prelude.{◌≡◌};
 ghost use Rattle.protocols.specs.Lent.{SameLists};
 ghost use Rattle.machine.specs.Table as table;
@@ -13,14 +13,16 @@ use machine::lent::Tables;
 use protocols::lent::{Lists, Tapes};
 use protocols::place::Place;
 
-/// One command, of the words `code`, `a` and `b`, from the place where the commands before it have come.
+/// Performs the command `code`, `a`, `b`; Specification: Table of commands.
 ///
-/// Lent are three share tables and the kind list, of one length, with an entry for each handle, and the inputs, the
-/// four tapes and the four received lists, each of any length in words.
+/// `place` is the place record that the command before it answered, at first all 0. Lent are three share tables and the
+/// kind list, of one length, and the inputs, the four tapes and the four received lists, each of any length in words;
+/// Specification: Lent lists.
 ///
-/// The answer's number is 0 or the refusal number, 4 to 13. An accepted command writes the new handle's entry, except
-/// for an open, and each party's words from the place's counts on, and answers the moved place, for the next command,
-/// and the opened word, which is 0 unless it is an open. A refused one writes nothing and answers the same place.
+/// The answer's number is 0 if the command is accepted, else that of the refusal, 4 to 13. An accepted command writes
+/// the entry of its new handle, if it makes a value, and each party's received words behind those that are there. It
+/// answers the next place record, and for an open the opened word, else 0. A refused command writes nothing and
+/// answers the same place record.
 #[unsafe(no_mangle)]
 pub extern "C" fn dinglefork_command(
     code: u32,

@@ -1,4 +1,4 @@
-//! The call of a session.
+//! The call for a session; Specification: Sessions.
 ghost use Rattle.std.specs.Prelude.{◌≡◌};
 ghost use Rattle.protocols.specs.Lent.{SameLists};
 ghost use Rattle.machine.specs.Lent.{SameTables};
@@ -9,7 +9,7 @@ use machine::lent::Tables;
 use protocols::lent::Lists;
 use session::SessionAnswer;
 
-/// The commands of a session file, as `session::session` runs them: lent, written and answered is the same.
+/// Runs the commands of a session file: all arguments and the answer are those of `session::session`.
 #[unsafe(no_mangle)]
 pub extern "C" fn dinglefork_session(
     file: &[u8],

@@ -1,4 +1,4 @@
-//! The call of a session with its text.
+//! The call for a session and its text; Specification: Lines.
 ghost use Rattle.std.specs.Prelude.{◌≡◌, ◌≤◌, length, take, drop};
 ghost use Rattle.protocols.specs.Lent.{SameLists};
 ghost use Rattle.machine.specs.Lent.{SameTables};
@@ -10,8 +10,8 @@ use machine::lent::Tables;
 use protocols::lent::Lists;
 use session::TEXT;
 
-/// The session of a file, with what the program `pool` prints of it at the front of `out`, as `session::pool` has it;
-/// answers the text's length in bytes. The rest of `out` is as it was.
+/// Runs a session file, writes the text that the program `pool` prints of it to the front of `out`, and answers the
+/// text's length in bytes: all arguments and the answer are those of `session::pool`.
 #[unsafe(no_mangle)]
 pub extern "C" fn dinglefork_pool(
     file: &[u8],

@@ -1,4 +1,4 @@
-//! Writes what callers hold, by `Display` and by `Debug`: tests/formats.py writes the same.
+//! Writes public values by `Display` and `Debug`; tests/formats.py writes the same text.
 #![tactic(auto)]
 
 use machine::answer::{Accepted, Answer, Run};
@@ -65,7 +65,7 @@ const ANSWER: Answer = Answer {
     opened: 0,
 };
 
-// An error by its name and in words, as a caller that knows only the trait writes it.
+// Writes an error by `Debug` and by `Display`, as a caller does that knows only the trait.
 fn write_error<E: Error>(out: &mut impl Write, error: E) -> io::Result<()> {
     writeln!(out, "{error:?}: {error}")
 }
@@ -130,7 +130,7 @@ fn write_answers(out: &mut impl Write) -> io::Result<()> {
     )
 }
 
-// What a command is, and what is public of it and of what it is lent.
+// A command, its row of the table, and the lengths of lent lists.
 fn write_commands(out: &mut impl Write) -> io::Result<()> {
     write_debug(
         out,

@@ -1,4 +1,4 @@
--- Laws of the definitions, one topic to a file.
+-- Laws of the definitions, one topic in each file.
 pub mod KindTest
 pub mod Part
 pub mod Lawful
@@ -28,3 +28,4 @@ pub mod Sound
 pub mod Threes
 pub mod RunTurns
 pub mod WorkedRuns
+pub mod Texts

@@ -1,5 +1,5 @@
--- What this crate claims of the command machine, as types, over words of 2 ^ n bits. Each claim is the contract of the
--- function of src/promises.rt that its comment names. The code's contracts cite the same definitions at n = 5.
+-- The claims of this crate as types, over words of 2 ^ n bits. Each is the contract of the function of src/promises.rt
+-- that its comment names. The code's contracts use the same definitions at n = 5.
 use Rattle.std.specs.Prelude.{ℕ, suc, ◌+◌, ◌-◌, ◌%◌, ◌≤◌, ◌<◌, ◌≡◌, ◌↔◌, cond, nat_eq, bit_xor}
 use Rattle.std.specs.Prelude.{List, [], ◌∷◌, ◌++◌, map, length, get_or, take, drop, replicate, Ok}
 use Rattle.protocols.specs.declared.place.Party.{Party}
@@ -35,15 +35,15 @@ use Rattle.machine.specs.Records.{miner_record, controller_record, SameToMiner, 
 use Rattle.machine.specs.Pairing.{Pairing}
 use Rattle.machine.specs.Refusals.{Applies, Lowest}
 
--- ---- the table of commands at 32 bits, line by line
+-- ---- the table of commands at 32 bits; Specification: Table of commands
 
--- the code word w names the command x, whose line is r
+-- the command of the code w is x, and its line is r
 abbrev pub IsRow : ℕ → Code → Row → Type 0
 IsRow w x r = (code_named w ≡ Ok x) × (row 5 x ≡ r)
 
--- In a line stand: code word and command; use of a and b; kinds of operands and new value; how many new values and
--- inputs; words received by miners 1, 2, 3 and the controller; words drawn by the provider and miners 1, 2, 3.
--- promised by `table_at_32`: each code word names its command, and each command has its line of the table
+-- A line: use of a and b; kinds of operands and new value; how many new values and inputs; received words (miners 1, 2,
+-- 3, controller); drawn words (provider, miners 1, 2, 3).
+-- promised by `table_at_32`: kinds, codes and lines are those of the table; Specification: Table of commands
 pub record TableAt32 : Type 0 where
   pub ring_value : kind_number RingValue ≡ 1
   pub bit_word : kind_number BitWord ≡ 2
@@ -74,15 +74,15 @@ pub record TableAt32 : Type 0 where
 
 -- ---- parts of a statement
 
--- a list after words were put behind its first k ones; all else of it is as it was
+-- `now` is the list `before` with words written behind its first k; Specification: Received words
 abbrev pub Appended : List ℕ → ℕ → List ℕ → List ℕ → Type 0
 Appended before k words now = now ≡ take k before ++ (words ++ drop (k + length words) before)
 
--- the entry k, counted from 0, is filled at the place q and was not at p
+-- the entry k, counted from 0, is filled by the place q and not by the place p
 abbrev pub IsNew : Place → Place → ℕ → Type 0
 IsNew p q k = (p.handles ≤ k) × (k < q.handles)
 
--- the command c at the place p
+-- the command c from the place p on the lent lists l
 module _ (n : ℕ) (c : Command) (p : Place) (l : Lent) where
   abbrev pub command_end : CommandOutcome
   command_end = command n c p l
@@ -92,17 +92,18 @@ module _ (n : ℕ) (c : Command) (p : Place) (l : Lent) where
 
   -- ---- refusals
 
-  -- promised by `command_refusals`: the number is the lowest of the table that applies, 0 if none does, and a refused
-  -- command changes nothing
+  -- promised by `command_refusals`: the number is the lowest that applies, or 0 if none does, and a refused command
+  -- changes nothing; Specification: Order of refusals, Specification: Refused commands
   pub record CommandRefusals : Type 0 where
-    -- a refused command leaves all lists and the place as they were, and opens 0
+    -- a refused command leaves lists and place record unchanged, and opens 0
     pub unchanged : ¬ (number_answered ≡ 0) → command_end ≡ command_outcome (answer number_answered p 0) l
+    -- a number r is answered exactly if it is the lowest that applies, and 0 exactly if none does
     pub refused : (r : ℕ) → 0 < r → (number_answered ≡ r) ↔ Lowest n c p l r
     pub accepted : (number_answered ≡ 0) ↔ ((r : ℕ) → ¬ Applies n c p l r)
 
   -- ---- agreement: what an accepted command answers and writes
 
-  -- after an accepted command x each of the ten counts has moved on by its row's
+  -- each of the ten counts has moved on by the line of x; Specification: Accepted commands
   pub record PlaceMoved (x : Code) : Type 0 where
     pub handles : command_end.answer.place.handles ≡ p.handles + (row n x).values
     pub inputs : command_end.answer.place.inputs ≡ p.inputs + (row n x).inputs
@@ -110,14 +111,14 @@ module _ (n : ℕ) (c : Command) (p : Place) (l : Lent) where
     pub received : (r : Receiver)
         → count_for r command_end.answer.place.received ≡ count_for r p.received + count_for r (row n x).received
 
-  -- the word that a handle's shares give before the command: of a ring value by sum, of a bit word by exclusive or
+  -- the value of handle h before the command, of ring shares and of bit shares; Specification: Shares
   abbrev pub ring_word : ℕ → ℕ
   ring_word h = sum_of (modulus n) (shares_at l.tables h)
 
   abbrev pub bit_word : ℕ → ℕ
   bit_word h = xor_of (shares_at l.tables h)
 
-  -- the new handle holds w after the command, as a ring value or as a bit word
+  -- after the command the new handle holds w, as a ring value and as a bit word; Specification: Kinds
   abbrev pub RingValueIs : ℕ → Type 0
   RingValueIs w =
       let h = p.handles + 1 in
@@ -128,7 +129,7 @@ module _ (n : ℕ) (c : Command) (p : Place) (l : Lent) where
       let h = p.handles + 1 in
       (entry command_end.lent.kinds h ≡ 2) × (xor_of (shares_at command_end.lent.tables h) ≡ w)
 
-  -- the new value of an accepted command, from the words that its operands' shares give
+  -- each command's new value, from the values of its operands; Specification: Table of commands
   abbrev pub NewValue : Code → Type 0
   NewValue Store = RingValueIs (get_or l.inputs p.inputs 0)
   NewValue Add = RingValueIs (add (modulus n) (ring_word c.a) (ring_word c.b))
@@ -143,25 +144,26 @@ module _ (n : ℕ) (c : Command) (p : Place) (l : Lent) where
   NewValue Open = Unit {0}
   NewValue Below = RingValueIs (bit_at (sub (modulus n) (ring_word c.a) (ring_word c.b)) (width n - 1))
 
-  -- each received list has gained the words of w, and all else of it is as it was
+  -- each received list has the words w behind its earlier ones; Specification: Received words
   abbrev pub Gain : Lists → Type 0
   Gain w = (r : Receiver)
       → Appended (list r l.received) (count_for r p.received) (list r w) (list r command_end.lent.received)
 
-  -- the words that the parties receive from the protocol of x on the next words of the tapes
+  -- what each party receives from the protocol of x on the next words of the tapes
   abbrev pub delivered_words : Code → Lists
   delivered_words x =
       let f = protocol n x c.b in
       f.received (arguments l.tables l.inputs p c) (block f.draws p l.tapes)
 
-  -- an accepted command x draws as many words as its row says, and each list gains as many as its row says, those of
-  -- its protocol on the words drawn
+  -- the protocol draws as many words as the line of x says, and as many are received, which are those that it sends;
+  -- Specification: Accepted commands
   pub record Counts (x : Code) : Type 0 where
     pub drawn : (protocol n x c.b).draws ≡ (row n x).drawn
     pub received : (r : Receiver) → length (list r (delivered_words x)) ≡ count_for r (row n x).received
     pub gain : Gain (delivered_words x)
 
-  -- an accepted open hands the controller three shares that add up to the register's word, and answers that word
+  -- the sum of the three shares that the controller receives is the register's word, and is answered;
+  -- Specification: Answers
   pub record OpenedRight : Type 0 where
     pub shares : Shares
     pub to_controller :
@@ -169,17 +171,17 @@ module _ (n : ℕ) (c : Command) (p : Place) (l : Lent) where
     pub add_up : sum_of (modulus n) shares ≡ (register_at (starting_registers n p l).held c.a).word
     pub answer : command_end.answer.opened ≡ (register_at (starting_registers n p l).held c.a).word
 
-  -- the code word names the command x, and 0 is answered
+  -- `Then` holds if the command is x and is accepted
   abbrev pub IfAccepted : Code → Type 0 → Type 0
   IfAccepted x Then = code_named c.code ≡ Ok x → number_answered ≡ 0 → Then
 
-  -- promised by `command_agreement`: number, place, registers, counts and opened word are the register machine's and
-  -- the table's, and nothing else changes
+  -- promised by `command_agreement`: the command does what the register machine and its line of the table say, and
+  -- changes nothing else; Specification: Registers, Specification: Accepted commands
   pub record CommandAgreement : Type 0 where
     -- the number and the place record are the register machine's
     pub same_number : number_answered ≡ verdict_number (judge n c (sizes l) (starting_registers n p l))
     pub same_place : command_end.answer.place ≡ (step n c (sizes l) l.inputs (starting_registers n p l)).place
-    -- every filled handle's shares combine, by its kind, to its register's word
+    -- the shares of every filled handle have the value and the kind of its register
     pub combine : (h : ℕ) → IsFilled command_end.answer.place h
         → let r = register_at (step n c (sizes l) l.inputs (starting_registers n p l)).held h in
         (entry command_end.lent.kinds h ≡ r.kind)
@@ -188,7 +190,7 @@ module _ (n : ℕ) (c : Command) (p : Place) (l : Lent) where
     pub place_counts : (x : Code) → IfAccepted x (PlaceMoved x)
     pub value : (x : Code) → IfAccepted x (NewValue x)
     pub counts : (x : Code) → IfAccepted x (Counts x)
-    -- the opened word is 0 unless an open was accepted; CommandRefusals says that a refused open answers 0
+    -- an accepted open opens its register's word, every other command 0 (a refused open: CommandRefusals)
     pub opened : c.code ≡ 11 → number_answered ≡ 0 → OpenedRight
     pub not_opened : ¬ (c.code ≡ 11) → command_end.answer.opened ≡ 0
     -- no entry but the new handle's is written
@@ -196,15 +198,15 @@ module _ (n : ℕ) (c : Command) (p : Place) (l : Lent) where
         → get_or (table i command_end.lent.tables) k 0 ≡ get_or (table i l.tables) k 0
     pub kinds_kept : (k : ℕ) → ¬ IsNew p command_end.answer.place k
         → get_or command_end.lent.kinds k 0 ≡ get_or l.kinds k 0
-    -- all else stays as it was, and words stay words
+    -- inputs, tapes and all lengths are unchanged, and words stay words
     pub inputs_kept : command_end.lent.inputs ≡ l.inputs
     pub tapes_kept : command_end.lent.tapes ≡ l.tapes
     pub sizes_kept : sizes command_end.lent ≡ sizes l
     pub words : LentAreWords (modulus n) command_end.answer.place command_end.lent
 
-  -- ---- the words that each party receives, written out over the lent tables, inputs and tapes
+  -- ---- the received words, in terms of the lent tables, inputs and tapes
 
-  -- word k, counted from 0, of those that party i draws next
+  -- word k, counted from 0, of those that party i draws; Specification: Draws
   abbrev pub next_word : Party → ℕ → ℕ
   next_word i k = get_or (tape i l.tapes) (count i p.drawn + k) 0
 
@@ -212,27 +214,29 @@ module _ (n : ℕ) (c : Command) (p : Place) (l : Lent) where
   abbrev pub share_of : ℕ → Miner → ℕ
   share_of h i = get_or (table i l.tables) (h - 1) 0
 
-  -- miner i's share of handle h, plus word k of its own tape, less that of the previous miner's tape
+  -- miner i's share of handle h, plus its own drawn word k, less that of the previous miner; Specification: Reshare
   abbrev pub masked_share : ℕ → ℕ → Miner → ℕ
   masked_share h k i =
       sub (modulus n) (add (modulus n) (share_of h i) (next_word (owner i) k)) (next_word (owner (prev i)) k)
 
-  -- promised by `transcript`: the words that each party receives from store, multiply, reshare, bit and open, one by
-  -- one, in their order
+  -- promised by `transcript`: the words that each party receives in store, multiply, reshare, bit and open, in their
+  -- order; Specification: Order of words
   pub record Transcript : Type 0 where
+    -- miner i receives s_i; Specification: Store
     pub store : c.code ≡ 1 → number_answered ≡ 0
         → let s₁ = next_word Provider 0 in
         let s₂ = next_word Provider 1 in
         Gain (lists (s₁ ∷ []) (s₂ ∷ []) (sub (modulus n) (sub (modulus n) (get_or l.inputs p.inputs 0) s₁) s₂ ∷ []) [])
-    -- each miner sends the next one r and s, then its share of a masked with r and its share of b masked with s
+    -- each miner sends r and s, then its masked shares of a and b, to the next; Specification: Multiply
     pub multiply : c.code ≡ 6 → number_answered ≡ 0
         → let from : Miner → List ℕ = λ i.
         next_word (owner i) 0 ∷ next_word (owner i) 1 ∷ masked_share c.a 0 i ∷ masked_share c.b 1 i ∷ [] in
         Gain (lists (from three) (from one) (from two) [])
+    -- each miner sends its drawn word to the next; Specification: Reshare
     pub reshare : c.code ≡ 7 → number_answered ≡ 0
         → let from : Miner → List ℕ = λ i. next_word (owner i) 0 ∷ [] in
         Gain (lists (from three) (from one) (from two) [])
-    -- u i is miner i's bit; miner 1 alone draws
+    -- u i is the bit of miner i's share, and only miner 1 draws; Specification: Bit
     pub bit : c.code ≡ 9 → number_answered ≡ 0
         → let u : Miner → ℕ = λ i. bit_at (share_of c.a i) c.b in
         let b = next_word One 0 % 2 in
@@ -241,21 +245,22 @@ module _ (n : ℕ) (c : Command) (p : Place) (l : Lent) where
         let m₁₃ = sub (modulus n) (bit_xor b (u one)) m₁₂ in
         let b₁₃ = bit_xor b b₁₂ in
         Gain (lists [] (m₁₂ ∷ b₁₂ ∷ bit_xor b₁₃ (u three) ∷ []) (m₁₃ ∷ b₁₃ ∷ bit_xor b₁₂ (u two) ∷ []) [])
-    -- the miners receive what they receive from reshare, and the controller the three shares so masked
+    -- the miners receive what they do in reshare, and the controller the three fresh shares; Specification: Open
     pub opening : c.code ≡ 11 → number_answered ≡ 0
         → let from : Miner → List ℕ = λ i. next_word (owner i) 0 ∷ [] in
         Gain (lists (from three) (from one) (from two)
         (masked_share c.a 0 one ∷ masked_share c.a 0 two ∷ masked_share c.a 0 three ∷ []))
 
--- ---- agreement over every list of commands, from every place
+-- ---- agreement of runs, from any place record
 
--- promised by `throughout`: agreement holds at each command of a list
+-- promised by `throughout`: the agreement holds at each command of a run; Specification: Runs
 unfoldable pub Throughout : ℕ → List Command → Place → Lent → Type 0
 Throughout n [] p l = Unit {0}
 Throughout n (c ∷ cs) p l =
     CommandAgreement n c p l × Throughout n cs (command n c p l).answer.place (command n c p l).lent
 
--- promised by `run_agrees`: the register machine, started once and run by itself, agrees at the end
+-- promised by `run_agrees`: the register machine, started once, has the run's numbers, place records, registers and
+-- opened words; Specification: Registers, Specification: Opened words
 pub record RunAgrees (n : ℕ) (cs : List Command) (p : Place) (l : Lent) : Type 0 where
   pub same_replies : map reply (run n cs p l).answers ≡ replies n cs (sizes l) l.inputs (starting_registers n p l)
   pub same_registers :
@@ -264,17 +269,17 @@ pub record RunAgrees (n : ℕ) (cs : List Command) (p : Place) (l : Lent) : Type
   pub same_opened :
       opened_words cs (run n cs p l).answers ≡ opened_registers n cs (sizes l) l.inputs (starting_registers n p l)
 
--- promised by `to_refusal`: a run that stops at the first refused command is the run of the commands up to that one
+-- promised by `to_refusal`: a run up to the first refusal is the run of the commands up to it; Specification: Runs
 pub data ToRefusal (n : ℕ) (cs : List Command) (p : Place) (l : Lent) : Type 0 where
-  -- none is refused, and it is the whole run
+  -- no command is refused, and it is the whole run
   all_done : run_to_refusal n cs p l ≡ run n cs p l → answer_numbers (run n cs p l) ≡ replicate (length cs) 0
       → ToRefusal n cs p l
-  -- command k, counted from 0, is the first refused one, with the number r, and it is the run up to that one
+  -- command k, counted from 0, is the first that is refused, with the number r, and it is the run up to this command
   stopped : (k r : ℕ) → 0 < r → k < length cs → run_to_refusal n cs p l ≡ run n (take (suc k) cs) p l
       → answer_numbers (run_to_refusal n cs p l) ≡ replicate k 0 ++ (r ∷ []) → ToRefusal n cs p l
 
--- promised by `adds_up`: what the controller receives in a run adds up, in threes, to the words that its accepted opens
--- answer, in order
+-- promised by `adds_up`: each three words that the controller receives in a run have an opened word as their sum, in
+-- order; Specification: Answers
 pub record AddsUp (m : ℕ) (cs : List Command) (p : Place) (l : Lent) (r : RunResult) : Type 0 where
   pub words : List ℕ
   pub received : received_words r.place r.lent controller ≡ received_words p l controller ++ words
@@ -282,65 +287,64 @@ pub record AddsUp (m : ℕ) (cs : List Command) (p : Place) (l : Lent) (r : RunR
       → r.place.received.controller ≤ length r.lent.received.controller
   pub add_up : opened_words cs r.answers ≡ sums_in_threes m words
 
--- promised by `opened_to_refusal`: a run that stops at the first refused command opens what its inputs lead to
+-- promised by `opened_to_refusal`: a run up to the first refusal opens what the register machine opens;
+-- Specification: Opened words
 abbrev pub OpenedToRefusal : ℕ → List Command → Place → Lent → Type 0
 OpenedToRefusal n cs p l =
     opened_words cs (run_to_refusal n cs p l).answers
     ≡ opened_registers_to_refusal n cs (sizes l) l.inputs (starting_registers n p l)
 
--- promised by `stays_sound`: where number 4 does not apply, it does not apply after any command
+-- promised by `stays_sound`: if refusal 4 does not apply, it does not apply after any command;
+-- Specification: Table of refusals
 abbrev pub StaysSound : ℕ → Command → Command → Place → Lent → Type 0
 StaysSound n c d p l = ¬ Applies n c p l 4 → ¬ Applies n d (command n c p l).answer.place (command n c p l).lent 4
 
--- ---- blindness: every record of a run is blind to the inputs
+-- ---- blindness; Specification: Blindness
 
--- Two input lists x and y, on tapes of the lengths d: `ran x t` is the run on the inputs x and the tapes t, `leading x`
--- the opened words that x leads to.
+-- blindness for the inputs x and y on tapes of the lengths d: `ran x t` is the run on the inputs x and the tapes t,
+-- `leading x` are the opened words that the register machine has for x; Specification: Blindness
 pub record BlindRuns
     (m : ℕ) (d : Drawn) (ran : List ℕ → Tapes → RunResult) (leading : List ℕ → List ℕ) (x y : List ℕ) : Type 0 where
-  -- whatever a miner's own tape holds, the other three pair off so that paired runs give it the same record
+  -- for each miner and each content of its tape: contents of the other tapes pair off so that its records are equal
   pub miner : (i : Miner) (own : List ℕ)
       → Pairing (λ t. Contents m d t × (tape (owner i) t ≡ own))
       (λ t t'. miner_record i (ran x t) ≡ miner_record i (ran y t'))
-  -- where both input lists lead to the same opened words, all four pair off so that paired runs give the controller the
-  -- same record
+  -- if x and y give the same opened words: contents of all tapes pair off so that the controller's records are equal
   pub controller : leading x ≡ leading y
       → Pairing (Contents m d) (λ t t'. controller_record (ran x t) ≡ controller_record (ran y t'))
 
--- Runs are blind for every list of commands, whatever the lent tables s, kinds k and received lists r hold, for all
--- lengths of lists and tapes, and for any two equally long lists of words as inputs. `ran` is how commands are run on
--- what is lent; `leading` gives the words that the commands, all lent lengths and the inputs lead to; m is the modulus.
+-- blindness for all commands, tables s, kinds k, received lists r, tape lengths d and two input lists of one length, of
+-- words below m: `ran` runs commands on lent lists, `leading` has their opened words; Specification: Blindness
 abbrev pub Blindness : ℕ → (List Command → Lent → RunResult) → (List Command → Sizes → List ℕ → List ℕ) → Type 0
 Blindness m ran leading = (cs : List Command) (s : Tables) (k : List ℕ) (r : Lists) (d : Drawn) (x y : List ℕ)
     → length x ≡ length y → AllBelow m x → AllBelow m y
     → BlindRuns m d (λ i t. ran cs (lent_lists s k i t r)) (λ i. leading cs (lengths s k i d r) i) x y
 
--- promised by `run_blindness`: every record of a run from an empty place record, past refusals, is blind to the inputs
+-- promised by `run_blindness`: blindness of runs from the empty place record; Specification: Blindness
 abbrev pub RunBlindness : ℕ → ℕ → Type 0
 RunBlindness n m =
     Blindness m (λ cs. run n cs empty_place) (λ cs z i. opened_registers n cs z i (registers [] empty_place))
 
--- promised by `run_blindness_to_refusal`: every record of a run that stops at the first refused command, as sessions
--- do, is blind to the inputs too
+-- promised by `run_blindness_to_refusal`: blindness of runs up to the first refusal; Specification: Blindness
 abbrev pub RunBlindnessToRefusal : ℕ → ℕ → Type 0
 RunBlindnessToRefusal n m =
     Blindness m (λ cs. run_to_refusal n cs empty_place)
     (λ cs z i. opened_registers_to_refusal n cs z i (registers [] empty_place))
 
--- promised by `miner_records`: equal records of a miner agree on its tape, every filled share, every received word, all
--- numbers and places
+-- promised by `miner_records`: in equal records of a miner, the tape, every share, every received word and all numbers
+-- and place records are equal; Specification: Records
 abbrev pub MinerRecords : Miner → RunResult → RunResult → Type 0
 MinerRecords i r r' = miner_record i r ≡ miner_record i r' → SameToMiner i r r'
 
--- promised by `controller_records`: equal records of the controller agree on every received and opened word, all
--- numbers and places
+-- promised by `controller_records`: in equal records of the controller, every received word, every opened word and all
+-- numbers and place records are equal; Specification: Records
 abbrev pub ControllerRecords : RunResult → RunResult → Type 0
 ControllerRecords r r' = controller_record r ≡ controller_record r' → SameToController r r'
 
 -- ---- no spent tape
 
--- promised by `never_spent`: an accepted command's protocol is done and never spent, whatever counts beside the words
--- drawn the place record has
+-- promised by `never_spent`: an accepted command's protocol never lacks a word, from any place record that counts the
+-- same drawn words; Specification: Draws
 abbrev pub NeverSpent : ℕ → Command → Place → Lent → Type 0
 NeverSpent n c p l = (x : Code) → IfAccepted n c p l x ((q : Place) → q.drawn ≡ p.drawn
     → let f = protocol n x c.b in

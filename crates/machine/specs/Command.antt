@@ -1,4 +1,4 @@
--- One command: its answer, and all lent lists after it.
+-- A command's answer and the lent lists after it; Specification: Accepted commands, Specification: Refused commands.
 use Rattle.std.specs.Prelude.{ℕ, zero, suc, cond, List, set, get_or, Result, Ok, Err}
 use Rattle.std.proofs.lemmas.List.Edits.{sets}
 use Rattle.protocols.specs.declared.place.Place.{Place}
@@ -18,16 +18,16 @@ use Rattle.machine.specs.Lent.{Tables, tables, Lent, lent_lists, sizes, shares_a
 use Rattle.machine.specs.Verdict.{Verdict, Accepted, Refused, verdict}
 use Rattle.machine.specs.Steps.{protocol}
 
--- an answer: 0 or the number of a refusal, the place record, and the opened word
+-- an answer: number, place record and opened word; Specification: Answers
 abbrev pub answer : ℕ → Place → ℕ → Answer
 answer r p w = record { number = r; place = p; opened = w }
 
--- what the code's `Result` answers, from the place p: its number and values in each case
+-- the answer for the code's `Result`, of a command from the place p; Specification: Answers
 abbrev pub answer_of : Place → Result code.Accepted Refusal → Answer
 answer_of p (Ok a) = answer 0 a.place a.opened
 answer_of p (Err r) = answer (refusal_number r) p 0
 
--- an answer, with all that is lent as it is after the command
+-- a command's outcome: its answer, and the lent lists after it
 pub record CommandOutcome : Type 0 where
   pub answer : Answer
   pub lent : Lent
@@ -35,33 +35,33 @@ pub record CommandOutcome : Type 0 where
 abbrev pub command_outcome : Answer → Lent → CommandOutcome
 command_outcome a l = record { answer = a; lent = l }
 
--- what a command works on: the next input, and the shares of the handles a and b
+-- what a protocol works on: the next input and the shares of the operands; Specification: Accepted commands
 abbrev pub arguments : Tables → List ℕ → Place → Command → Arguments
 arguments t inputs p c = record { input = get_or inputs p.inputs 0; u = shares_at t c.a; v = shares_at t c.b }
 
--- the opened word: what the three shares of an open add up to, and 0 of every other command
+-- the sum of the three shares s for an open, 0 for any other command; Specification: Answers
 abbrev pub opened_word : ℕ → Row → Shares → ℕ
 opened_word n x s = cond (opens_value x) (sum_of (modulus n) s) 0
 
--- ---- what an accepted command writes: the new handle's entries and the new received words, and no other word
+-- ---- what an accepted command writes; Specification: Accepted commands
 
--- a list with w in the entry at a place, where a value is due
+-- a list, with w at a position if there is a new value (the first argument counts new values)
 abbrev pub with_entry : ℕ → List ℕ → ℕ → ℕ → List ℕ
 with_entry zero l at w = l
 with_entry (suc k) l at w = set l at w
 
--- the share tables with a value's three shares at the same place, where a value is due
+-- the share tables, with the three shares at one position if there is a new value
 abbrev pub with_shares : ℕ → Tables → ℕ → Shares → Tables
 with_shares k t at s =
     tables (with_entry k t.one at s.one) (with_entry k t.two at s.two) (with_entry k t.three at s.three)
 
--- the received lists, with new words behind those that each list holds by the place p
+-- the received lists, with new words behind those that the place p counts; Specification: Received words
 abbrev pub with_received : Lists → Place → Lists → Lists
 with_received l p w =
     lists (sets l.one p.received.one w.one) (sets l.two p.received.two w.two) (sets l.three p.received.three w.three)
     (sets l.controller p.received.controller w.controller)
 
--- all that is lent, with the new value's shares and kind and the new received words
+-- the lent lists, with shares and kind of a new value, and the new received words; Specification: Accepted commands
 abbrev pub with_outputs : Row → Place → Shares → Lists → Lent → Lent
 with_outputs x p s w l =
     lent_lists (with_shares x.values l.tables p.handles s)
@@ -69,7 +69,7 @@ with_outputs x p s w l =
 
 -- ---- the command
 
--- an accepted command plays its protocol on the next words of the tapes, as many as it draws
+-- an accepted command: its protocol on the next words of the tapes; Specification: Accepted commands
 unfoldable pub accepted_outcome : ℕ → Code → Command → Place → Lent → CommandOutcome
 accepted_outcome n x c p l =
     let f = protocol n x c.b in
@@ -78,11 +78,11 @@ accepted_outcome n x c p l =
     command_outcome (answer 0 (with_row p (row n x)) (opened_word n (row n x) (f.result g b)))
     (with_outputs (row n x) p (f.result g b) (f.received g b) l)
 
--- a command by its verdict: a refused one opens 0, and leaves the place record and all lists as they were
+-- a command by its verdict: a refused one changes nothing; Specification: Refused commands
 abbrev pub verdict_outcome : ℕ → Verdict → Command → Place → Lent → CommandOutcome
 verdict_outcome n (Accepted x) c p l = accepted_outcome n x c p l
 verdict_outcome n (Refused r) c p l = command_outcome (answer (refusal_number r) p 0) l
 
--- the command c at the place p, with l lent
+-- the command c from the place p on the lent lists l
 unfoldable pub command : ℕ → Command → Place → Lent → CommandOutcome
 command n c p l = verdict_outcome n (verdict n c p (sizes l) l.kinds) c p l

@@ -1,4 +1,4 @@
--- What a command is and does, in the order in which it is read.
+-- Commands and runs, in reading order.
 pub mod Table
 pub mod Lent
 pub mod Refusal
@@ -9,12 +9,13 @@ pub mod Registers
 pub mod Start
 pub mod Run
 pub mod Printed
--- What is claimed of commands and runs, and the notions that the claims speak of.
+-- The claims, and the definitions that only they use.
 pub mod Records
 pub mod Pairing
 pub mod Refusals
 pub mod Claims
 pub mod Apart
 pub mod WorkedRuns
--- What only contracts inside the crate speak of.
+pub mod Texts
+-- Definitions for contracts inside the crate.
 pub mod Private

@@ -1,14 +1,14 @@
--- Tapes that pair off: a one-to-one map of all contents of their lengths onto all of them.
+-- One-to-one maps of tape contents; Specification: Blindness.
 use Rattle.std.specs.Prelude.{◌≡◌}
 use Rattle.protocols.specs.Place.{Tapes}
 
--- Contents that are Ok pair off: `to` leads each to its partner, which is Ok too. Of the two of a pair, first and
--- second, Alike holds.
+-- `to` gives each content that is Ok a partner that is Ok, one to one and onto, and Alike holds of content and partner;
+-- Specification: Blindness
 pub record Pairing (Ok : Tapes → Type 0) (Alike : Tapes → Tapes → Type 0) : Type 0 where
   pub to : Tapes → Tapes
   pub to_ok : (t : Tapes) → Ok t → Ok (to t)
-  -- no two have the same partner
+  -- no two contents have the same partner
   pub one_to_one : (t t' : Tapes) → Ok t → Ok t' → to t ≡ to t' → t ≡ t'
-  -- none is left over: each is the partner of one
+  -- every content is a partner
   pub none_left_over : (u : Tapes) → Ok u → (t : Tapes) × Ok t × (to t ≡ u)
   pub alike : (t : Tapes) → Ok t → Alike t (to t)

@@ -1,5 +1,5 @@
--- What is printed of a refusal and of a kind.
-use Rattle.std.specs.Prelude.{ℕ, List, ◌++◌, codes, decimal}
+-- The texts of a refusal and of a kind; Specification: Sentences.
+use Rattle.std.specs.Prelude.{ℕ, List, [], ◌++◌, codes, decimal, Option, None, Some}
 use Rattle.protocols.specs.declared.outcome.Shortage.TheVariants as shortage
 use Rattle.protocols.specs.Printed as protocols
 use Rattle.machine.specs.declared.kind.Kind.{Kind}
@@ -9,9 +9,9 @@ use Rattle.machine.specs.declared.refusal.Refusal.TheVariants.{NotWhole, Content
 use Rattle.machine.specs.declared.refusal.Refusal.TheVariants.{UnknownCode, FieldNotZero, HandleNotFilled}
 use Rattle.machine.specs.declared.refusal.Refusal.TheVariants.{WrongKind, PositionOutside, TablesFull, InputsUsed}
 use Rattle.machine.specs.declared.refusal.Refusal.TheVariants.{TapeSpent, ListFull}
-use Rattle.machine.specs.Refusal.{refusal_number}
+use Rattle.machine.specs.Refusal.{refusal_number, refusal_numbered}
 
--- what is wrong, and what mends it
+-- a refusal's sentence; Specification: Sentences
 abbrev pub sentence : Refusal → List ℕ
 sentence NotWhole = codes "the file is under 48 bytes or ends within a word; send the whole file, 4 bytes a word"
 sentence ContentsBroken =
@@ -30,10 +30,20 @@ sentence InputsUsed = codes "all inputs are used; lend one for each store"
 sentence TapeSpent = protocols.shortage shortage.TapeSpent
 sentence ListFull = protocols.shortage shortage.ListFull
 
--- `refused R: ` and the sentence
+-- a refusal in words: `refused N: ` and its sentence; Specification: Sentences
 abbrev pub refusal : Refusal → List ℕ
 refusal r = codes "refused " ++ decimal (refusal_number r) ++ codes ": " ++ sentence r
 
+-- the text of a refusal, if there is one, else no text
+abbrev pub text_of : Option Refusal → List ℕ
+text_of None = []
+text_of (Some r) = refusal r
+
+-- the text of refusal k, or no text if no refusal has this number; Specification: Sentences
+abbrev pub refusal_text : ℕ → List ℕ
+refusal_text k = text_of (refusal_numbered k)
+
+-- a kind's name
 abbrev pub kind : Kind → List ℕ
 kind RingValue = codes "ring value"
 kind BitWord = codes "bit word"

@@ -1,2 +1,2 @@
--- What only contracts inside the crate speak of.
+-- Definitions for contracts inside the crate.
 pub mod Accept

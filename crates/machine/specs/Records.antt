@@ -1,4 +1,4 @@
--- The record that each party has after a run, and what equal records have in common.
+-- The records of miners and controller after a run, and what equal records have in common; Specification: Records.
 use Rattle.std.specs.Prelude.{ℕ, ◌<◌, ◌≡◌, List, map, get_or}
 use Rattle.protocols.specs.Shares.{Miner}
 use Rattle.protocols.specs.Place.{tape, owner, Receiver, miner, controller, list}
@@ -6,14 +6,14 @@ use Rattle.protocols.specs.Counts.{count_for}
 use Rattle.machine.specs.Lent.{table, entry, IsFilled, filled_shares, received_words}
 use Rattle.machine.specs.Run.{RunResult, answer_numbers, Reply, reply}
 
--- a miner's record: its tape, its filled shares, its received words, and each command's number and place record, in
--- order
+-- a miner's record; Specification: Records
 pub record MinerRecord : Type 0 where
   pub tape : List ℕ
   pub shares : List ℕ
   pub received : List ℕ
   pub replies : List Reply
 
+-- miner i's record after the run r; Specification: Records
 abbrev pub miner_record : Miner → RunResult → MinerRecord
 miner_record i r = record {
   tape = tape (owner i) r.lent.tapes;
@@ -22,12 +22,13 @@ miner_record i r = record {
   replies = map reply r.answers;
 }
 
--- the controller's record: its received words, each command's opened word, and each command's number and place record
+-- the controller's record; Specification: Records
 pub record ControllerRecord : Type 0 where
   pub received : List ℕ
   pub opened : List ℕ
   pub replies : List Reply
 
+-- this record after the run r; Specification: Records
 abbrev pub controller_record : RunResult → ControllerRecord
 controller_record r = record {
   received = received_words r.place r.lent controller;
@@ -37,17 +38,17 @@ controller_record r = record {
 
 -- ---- what equal records have in common
 
--- in two runs each command answers the same number and place record
+-- both runs have equal numbers and equal place records
 abbrev pub SameReplies : RunResult → RunResult → Type 0
 SameReplies r r' =
     (answer_numbers r ≡ answer_numbers r') × (map (λ a. a.place) r.answers ≡ map (λ a. a.place) r'.answers)
 
--- after two runs the receiver q has the same words
+-- receiver q has the same words after both runs
 abbrev pub SameWords : Receiver → RunResult → RunResult → Type 0
 SameWords q r r' = (k : ℕ) → k < count_for q r.place.received → k < count_for q r'.place.received
     → get_or (list q r.lent.received) k 0 ≡ get_or (list q r'.lent.received) k 0
 
--- two runs are the same in all that miner i has after them
+-- both runs are the same in each part of miner i's record
 pub record SameToMiner (i : Miner) (r r' : RunResult) : Type 0 where
   pub same_tape : tape (owner i) r.lent.tapes ≡ tape (owner i) r'.lent.tapes
   pub same_shares : (h : ℕ) → IsFilled r.place h → IsFilled r'.place h
@@ -55,7 +56,7 @@ pub record SameToMiner (i : Miner) (r r' : RunResult) : Type 0 where
   pub same_words : SameWords (miner i) r r'
   pub same_replies : SameReplies r r'
 
--- two runs are the same in all that the controller has after them
+-- both runs are the same in each part of the controller's record
 pub record SameToController (r r' : RunResult) : Type 0 where
   pub same_words : SameWords controller r r'
   pub same_opened : map (λ a. a.opened) r.answers ≡ map (λ a. a.opened) r'.answers

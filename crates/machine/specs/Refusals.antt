@@ -1,5 +1,4 @@
--- The table of refusals, line by line, as plain propositions about a command. Numbers 1 to 3, and number 4 of a
--- session, are in the session's table.
+-- When each refusal from 4 to 13 applies to a command, line by line; Specification: Table of refusals.
 use Rattle.std.specs.Prelude.{ℕ, ◌-◌, ◌≤◌, ◌<◌, ◌≡◌, length, Ok}
 use Rattle.protocols.specs.declared.place.Party.{Party}
 use Rattle.protocols.specs.declared.place.Place.{Place}
@@ -14,72 +13,77 @@ use Rattle.machine.specs.declared.row.Use.TheVariants.{Unused, Handle, Position}
 use Rattle.machine.specs.declared.row.Row.{Row}
 use Rattle.machine.specs.Lent.{Lent, table, entry, IsFilled}
 
--- the ten counts of a place record, with the list that each counts in
+-- the ten counts of a place record; Specification: Place record
 pub data Counter : Type 0 where
   handles : Counter
   inputs : Counter
   drawn : Party → Counter
   received : Receiver → Counter
 
+-- what a count is in the place record p
 abbrev pub counter_value : Counter → Place → ℕ
 counter_value handles p = p.handles
 counter_value inputs p = p.inputs
 counter_value (drawn i) p = count i p.drawn
 counter_value (received r) p = count_for r p.received
 
+-- the length of the list that a count is about; Specification: Table of refusals
 abbrev pub list_length : Counter → Lent → ℕ
 list_length handles l = length l.tables.one
 list_length inputs l = length l.inputs
 list_length (drawn i) l = length (tape i l.tapes)
 list_length (received r) l = length (list r l.received)
 
--- the fields a and b of a command, with their use in a row
+-- the two fields of a command; Specification: Table of commands
 pub data Field : Type 0 where
   a b : Field
 
+-- the word in a field
 abbrev pub field : Field → Command → ℕ
 field a c = c.a
 field b c = c.b
 
+-- what a line of the table uses a field for
 abbrev pub use_of : Field → Row → Use
 use_of a x = x.a
 use_of b x = x.b
 
--- the number in the index applies to the command c at the place p, with l lent
+-- the refusal of the number applies to the command c from the place p on the lent lists l;
+-- Specification: Table of refusals
 pub data Applies (n : ℕ) (c : Command) (p : Place) (l : Lent) : ℕ → Type 0 where
-  -- 4: a share table and the kind list differ in length
+  -- 4: the kind list and one of the share tables differ in length
   lengths_differ : (i : Miner) → ¬ (length (table i l.tables) ≡ length l.kinds) → Applies n c p l 4
-  -- 4: a count of the place record is more than its list is long
+  -- 4: a count of the place record is over the length of its list
   place_beyond : (k : Counter) → list_length k l < counter_value k p → Applies n c p l 4
   -- 4: the kind of a filled handle is neither 1 nor 2
   no_kind : (h : ℕ) → IsFilled p h → ¬ (entry l.kinds h ≡ 1) → ¬ (entry l.kinds h ≡ 2) → Applies n c p l 4
-  -- 5: the code word is not one of 1 to 12
+  -- 5: the code is not one of 1 to 12
   no_code : ¬ ((1 ≤ c.code) × (c.code ≤ 12)) → Applies n c p l 5
-  -- 6: a field that the command does not use is not 0
+  -- 6: an unused field is not 0
   unused_field : (x : Code) → code_named c.code ≡ Ok x → (f : Field) → use_of f (row n x) ≡ Unused
       → ¬ (field f c ≡ 0) → Applies n c p l 6
-  -- 7: a field that is used as a handle is 0 or is not filled
+  -- 7: a field for a handle holds 0 or a handle that is not filled
   not_filled : (x : Code) → code_named c.code ≡ Ok x → (f : Field) → use_of f (row n x) ≡ Handle
       → ¬ IsFilled p (field f c) → Applies n c p l 7
-  -- 8: a filled handle is of another kind than the command's operands
+  -- 8: a filled handle is not of the kind that the command takes
   wrong_kind : (x : Code) → code_named c.code ≡ Ok x → (f : Field) → use_of f (row n x) ≡ Handle
       → IsFilled p (field f c) → ¬ (entry l.kinds (field f c) ≡ kind_number (row n x).operands) → Applies n c p l 8
-  -- 9: a position is past the highest bit of a word
+  -- 9: a bit position is above the highest bit
   over_position : (x : Code) → code_named c.code ≡ Ok x → (f : Field) → use_of f (row n x) ≡ Position
       → width n - 1 < field f c → Applies n c p l 9
-  -- 10: a new value is due, and every entry of the share tables is filled
+  -- 10: the command makes a value, and every entry of the tables is filled
   tables_full : (x : Code) → code_named c.code ≡ Ok x → (row n x).values ≡ 1 → length l.tables.one ≤ p.handles
       → Applies n c p l 10
-  -- 11: an input is to be stored, and all inputs are used
+  -- 11: the command is store, and every input is used
   inputs_used : code_named c.code ≡ Ok Store → length l.inputs ≤ p.inputs → Applies n c p l 11
-  -- 12: a tape has fewer words left than the command draws from it
+  -- 12: the words left on a tape are fewer than the command's draws
   spent_tape : (x : Code) → code_named c.code ≡ Ok x
       → (i : Party) → length (tape i l.tapes) - count i p.drawn < count i (row n x).drawn → Applies n c p l 12
-  -- 13: a received list has room for fewer words than the command puts into it
+  -- 13: the room left in a received list is less than the command's words for it
   list_full : (x : Code) → code_named c.code ≡ Ok x
       → (r : Receiver) → length (list r l.received) - count_for r p.received < count_for r (row n x).received
       → Applies n c p l 13
 
--- r applies, and no lower number does
+-- refusal r applies, and no lower one; Specification: Order of refusals
 abbrev pub Lowest : ℕ → Command → Place → Lent → ℕ → Type 0
 Lowest n c p l r = Applies n c p l r × ((q : ℕ) → q < r → ¬ Applies n c p l q)

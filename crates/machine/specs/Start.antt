@@ -1,4 +1,4 @@
--- The registers that shares stand for.
+-- The registers from which the register machine starts; Specification: Registers.
 use Rattle.std.specs.Prelude.{ℕ, zero, suc, cond, List, [], ◌∷◌, ◌++◌, nat_eq}
 use Rattle.protocols.specs.declared.place.Place.{Place}
 use Rattle.protocols.specs.declared.shares.Shares.{Shares}
@@ -7,19 +7,19 @@ use Rattle.protocols.specs.Shares.{sum_of, xor_of}
 use Rattle.machine.specs.Lent.{Lent, entry, shares_at}
 use Rattle.machine.specs.Registers.{Register, register, Registers, registers}
 
--- the word that three shares give: by exclusive or where the kind is 2, a bit word, and else by their sum modulo m
+-- the value of three shares: their exclusive or if the kind is 2, else their sum modulo m; Specification: Shares
 abbrev pub combined_word : ℕ → ℕ → Shares → ℕ
 combined_word m kind s = cond (nat_eq kind 2) (xor_of s) (sum_of m s)
 
--- the register of the handle h
+-- the register of handle h: the value of its shares, and its kind
 abbrev pub register_of : ℕ → Lent → ℕ → Register
 register_of n l h = register (combined_word (modulus n) (entry l.kinds h) (shares_at l.tables h)) (entry l.kinds h)
 
--- f 1, f 2 and so on to f k
+-- the list of f 1 to f k
 unfoldable pub up_to : {A : Type 0} → ℕ → (ℕ → A) → List A
 up_to zero f = []
 up_to (suc k) f = up_to k f ++ (f (suc k) ∷ [])
 
--- the register machine starts from the words that the filled shares give, their kinds and the place record
+-- the registers of all filled handles, and the place record p; Specification: Registers
 unfoldable pub starting_registers : ℕ → Place → Lent → Registers
 starting_registers n p l = registers (up_to p.handles (register_of n l)) p

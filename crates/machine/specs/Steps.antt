@@ -1,4 +1,4 @@
--- The protocol of each command.
+-- The protocol of each command; Specification: Accepted commands.
 use Rattle.std.specs.Prelude.{ℕ}
 use Rattle.protocols.specs.declared.shares.Shares.{Shares}
 use Rattle.protocols.specs.Word.{modulus}
@@ -18,11 +18,11 @@ use Rattle.machine.specs.Table.{Store, Add, Subtract, AddConstant, TimesConstant
 use Rattle.machine.specs.Table.{Reshare, Bits, Bit, Equal, Open, Below}
 use Rattle.machine.specs.declared.arguments.Arguments.{Arguments}
 
--- the shares of the handles a and b
+-- the shares of both operands
 abbrev pub operands_of : Arguments → Operands
 operands_of g = operands g.u g.v
 
--- the protocol of a command with the word b, which is public, on what the command works on
+-- each command's protocol, where b is its public constant or bit position; Specification: Protocols
 unfoldable pub protocol : ℕ → Code → ℕ → Protocol Arguments Shares
 protocol n Store b = from_part (λ g. g.input) (store (modulus n))
 protocol n Add b = from_part operands_of (locally (sum (modulus n)))

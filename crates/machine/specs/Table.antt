@@ -1,4 +1,4 @@
--- The table of commands, over words of 2 ^ n bits.
+-- The table of commands, over words of 2 ^ n bits; Specification: Table of commands.
 use Rattle.std.specs.Prelude.{ℕ, ◌+◌, ◌*◌, Bool, cond, nat_lt, nat_eq, Result, Ok, Err}
 use Rattle.protocols.specs.declared.place.Drawn.{Drawn}
 use Rattle.protocols.specs.declared.place.Place.{Place}
@@ -14,11 +14,11 @@ use Rattle.machine.specs.declared.row.Use.{Use}
 use Rattle.machine.specs.declared.row.Use.TheVariants.{Unused, Handle, Word, Position}
 use Rattle.machine.specs.declared.row.Row.{Row}
 
--- a command, from its three words
+-- a command from its three words: code, a, b; Specification: Table of commands
 abbrev pub command_of : ℕ → ℕ → ℕ → Command
 command_of code a b = record { code = code; a = a; b = b }
 
--- the twelve commands
+-- the twelve commands in the order of their codes; Specification: Table of commands
 pub data Code : Type 0 where
   Store : Code
   Add : Code
@@ -33,7 +33,7 @@ pub data Code : Type 0 where
   Open : Code
   Below : Code
 
--- the command that a code word names; of a word that names none, the refusal
+-- the command that has the code x, or refusal 5 if none has it; Specification: Table of refusals
 abbrev pub code_named : ℕ → Result Code Refusal
 code_named x =
     cond (nat_eq x 1) (Ok Store)
@@ -50,18 +50,18 @@ code_named x =
     (cond (nat_eq x 12) (Ok Below)
     (Err UnknownCode))))))))))))
 
--- the number of a kind in the kind list
+-- a kind's number in the kind list; Specification: Kinds
 abbrev pub kind_number : Kind → ℕ
 kind_number RingValue = 1
 kind_number BitWord = 2
 
--- a line of the table: use of a and b, the operands' kind, the new value's kind, how many new values and inputs, words
--- received by miners 1 to 3 and the controller, words drawn by the provider and miners 1 to 3
+-- a line of the table: use of a and b, kinds of operands and new value, how many new values and inputs there are, words
+-- received and words drawn; Specification: Table of commands
 abbrev pub row_of : Use → Use → Kind → Kind → ℕ → ℕ → Received → Drawn → Row
 row_of a b operands kind values inputs k d =
     record { a = a; b = b; operands = operands; kind = kind; values = values; inputs = inputs; received = k; drawn = d }
 
--- the line of each command: only bit takes a bit word, only bits makes one, and open makes no new value
+-- each command's line, with its counts for words of 2 ^ n bits; Specification: Table of commands
 abbrev pub row : ℕ → Code → Row
 row n Store = row_of Unused Unused RingValue RingValue 1 1 (received_counts 1 1 1 0) (counts 2 0 0 0)
 row n Add = row_of Handle Handle RingValue RingValue 1 0 (received_counts 0 0 0 0) (counts 0 0 0 0)
@@ -79,11 +79,11 @@ row n Open = row_of Handle Unused RingValue RingValue 0 0 (received_counts 1 1 1
 row n Below = row_of Handle Handle RingValue RingValue 1 0
     (received_counts (2 + 4 * n) (8 + 4 * n) (8 + 4 * n) 0) (counts 0 (8 + 2 * n) (2 + 2 * n) (2 + 2 * n))
 
--- whether a line is that of an open, the one command with words for the controller
+-- the line is that of open, the only command from which the controller receives words
 abbrev pub opens_value : Row → Bool
 opens_value x = nat_lt 0 x.received.controller
 
--- the place record moved on by a row's counts
+-- the place record, moved on by the counts of a line; Specification: Accepted commands
 abbrev pub with_row : Place → Row → Place
 with_row p x = record {
   handles = p.handles + x.values;

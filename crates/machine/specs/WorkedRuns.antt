@@ -1,5 +1,6 @@
--- One worked run of each command. The numbers are those of a second writing of the machine, which shares nothing with
--- this one: tests/worked_runs.py prints this file. All words that are lent, but for the kinds, are different.
+-- One worked run of each command; Specification: Accepted commands. tests/worked_runs.py prints this file: its numbers
+-- come from a second writing of the machine, which shares no code with the engine. All words that are lent, but for the
+-- kinds, are different.
 use Rattle.std.specs.Prelude.{◌≡◌, ℕ, List, [], ◌∷◌, ◌++◌, length, drop}
 use Rattle.protocols.specs.declared.place.Place.{Place}
 use Rattle.protocols.specs.declared.shares.Shares.{Shares}
@@ -22,7 +23,7 @@ values = tables
 abbrev pub kinds : List ℕ
 kinds = 1 ∷ 1 ∷ 2 ∷ 1 ∷ []
 
--- what stands in the two entries that are not filled
+-- the two entries that are not filled
 abbrev pub unfilled_entries : Tables
 unfilled_entries = tables
     (101 ∷ 102 ∷ [])
@@ -49,7 +50,7 @@ lent_tapes = tapes
     797978777 ∷ 452920875 ∷ 294908848 ∷ 578175824 ∷ 2749212048 ∷ 1018154983 ∷ 777310291 ∷ 1118167327 ∷
     2604582127 ∷ [])
 
--- the words that were received before
+-- the words that were received before the run
 abbrev pub words_before : Lists
 words_before = lists
     (1412448972 ∷ [])
@@ -57,7 +58,7 @@ words_before = lists
     (1674281602 ∷ 2309878713 ∷ 1154898613 ∷ 51704690 ∷ [])
     (2143313780 ∷ 2009867087 ∷ 4232481856 ∷ [])
 
--- what stands in the unfilled part of each list
+-- the unfilled part of each received list
 abbrev pub unfilled_parts : Lists
 unfilled_parts = lists
     (501 ∷ 502 ∷ 503 ∷ 504 ∷ 505 ∷ 506 ∷ 507 ∷ 508 ∷
@@ -73,14 +74,13 @@ unfilled_parts = lists
     725 ∷ 726 ∷ 727 ∷ 728 ∷ 729 ∷ [])
     (801 ∷ 802 ∷ 803 ∷ 804 ∷ [])
 
--- filled handles and used inputs; words drawn by the provider and miners 1 to 3; words received by these miners and the
--- controller
+-- the ten counts; Specification: Place record
 abbrev pub start : Place
 start = place_of (4 ∷ 1 ∷ 1 ∷ 2 ∷ 3 ∷ 4 ∷ 1 ∷ 2 ∷ 4 ∷ 3 ∷ [])
 
 -- ---- a run, and what it leaves
 
--- a list: the words that it held, new words after them, and the rest of it as it was
+-- a list: the words that it held, new words behind them, and the rest of it as it was
 abbrev pub with_words : List ℕ → List ℕ → List ℕ → List ℕ
 with_words held words beyond = held ++ (words ++ drop (length words) beyond)
 
@@ -108,22 +108,21 @@ no_shares = tables [] [] []
 abbrev pub outcome_at_start : ℕ → ℕ → ℕ → CommandOutcome
 outcome_at_start code a b = command 5 (command_of code a b) start (lent_with no_shares [] silence)
 
--- a new value: the ten counts of the place record, the shares and the kind, and the words that each party receives;
--- 0 is answered, and no word is opened
+-- of a command that makes a value: the ten counts after it, shares and kind, and the words that each party receives
 abbrev pub outcome_with_value : List ℕ → Shares → ℕ → Lists → CommandOutcome
 outcome_with_value counts s kind words =
     command_outcome (answer 0 (place_of counts) 0)
     (lent_with (tables (s.one ∷ []) (s.two ∷ []) (s.three ∷ [])) (kind ∷ []) words)
 
--- an opened word: the ten counts, the word, and the words that each party receives; 0 is answered
+-- of an open: the ten counts after it, the opened word, and the words that each party receives
 abbrev pub outcome_with_opened_word : List ℕ → ℕ → Lists → CommandOutcome
 outcome_with_opened_word counts word words =
     command_outcome (answer 0 (place_of counts) word) (lent_with no_shares [] words)
 
--- promised by `worked_runs`: from a place where something is held in each list already, each of the twelve commands
--- takes exactly the next words of the tapes, answers exactly these counts and this opened word, writes exactly these
--- shares and this kind into the next entry, and puts exactly these words, in this order, into the unfilled part of each
--- party's list; all else stays as it was.
+-- promised by `worked_runs`: from a place record that counts words of each list, each of the twelve commands draws the
+-- next words of the tapes, answers exactly these counts and this opened word, writes exactly these shares and this kind
+-- into the next entry and exactly these words, in this order, into the unfilled part of each party's list; all else
+-- stays as it was. Specification: Accepted commands.
 pub record WorkedRuns : Type 0 where
   -- the next input, shared
   pub store : outcome_at_start 1 0 0

@@ -1,4 +1,5 @@
-//! A command that passed the tests 4 to 11: its protocol is played, and what it makes is written.
+//! A command to which none of the refusals 4 to 11 applies: its protocol, and what it writes;
+//! Specification: Accepted commands.
 ghost use Rattle.std.specs.Prelude.{◌≡◌, ◌+◌};
 ghost use Rattle.protocols.specs.Place.{lists};
 ghost use Rattle.protocols.specs.Protocol.{perform};
@@ -27,7 +28,7 @@ use protocols::outcome::{Done, Shortage};
 use protocols::place::Place;
 use protocols::shares::Shares;
 
-// The opened word, 0 of any command but an open: only an open has words for the controller.
+// The opened word: only open has words for the controller, and every other command opens 0; Specification: Answers.
 fn opened_word(x: Row, s: Shares) -> u32
     ensures { result ≡ command.opened_word 5 x s }
 {
@@ -38,8 +39,7 @@ fn opened_word(x: Row, s: Shares) -> u32
     0
 }
 
-// Writes the shares that the protocol made into the new handle's entries, if a value is due. Where the protocol lacked
-// words or room, nothing changes.
+// Writes the new handle's entries, if there is a new value. If the protocol lacked words or room, nothing changes.
 #[tactic(auto, using(crate::proofs::Laws::Accept::counted_fits))]
 #[inline(always)]
 fn finish(
@@ -62,8 +62,8 @@ fn finish(
     })
 }
 
-// Plays the protocol on lists that are lent one by one: the borrow rules do not cover a struct of unfilled parts that
-// is made where they are cut from the lists.
+// Plays the protocol on received lists that are lent one by one: the borrow rules do not allow a struct of their
+// unfilled parts where these are cut off.
 #[inline(always)]
 fn play_by_list<O: Operation>(
     c: Command,
@@ -88,7 +88,7 @@ fn play_by_list<O: Operation>(
     O::play(c.b, g, place, tapes, &mut lists)
 }
 
-// Plays the protocol on the unfilled part of each list, and writes the new handle's entries.
+// Plays the protocol on the unfilled parts of the received lists, and writes the new handle's entries.
 #[inline(always)]
 pub(crate) fn accept<O: Operation>(
     c: Command,

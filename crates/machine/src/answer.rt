@@ -1,4 +1,4 @@
-//! What a command and a run of commands answer.
+//! What a command and a run answer; Specification: Answers.
 ghost use Rattle.std.specs.Prelude.{◌≡◌};
 ghost use Rattle.protocols.specs.declared.place.Place as place;
 ghost use Rattle.machine.specs.declared.answer.Answer as answer;
@@ -10,35 +10,34 @@ use protocols::place::Place;
 /// What an accepted command answers.
 #[derive(Clone, Copy, Debug, PartialEq, Eq)]
 pub struct Accepted {
-    /// The place record to go on from: the one where the command began, moved on by what it used and wrote.
+    /// The place record after the command.
     pub place: Place,
-    /// The opened word; 0 unless the command is an open.
+    /// The opened word, or 0 for a command other than open.
     pub opened: u32,
 }
 
-/// What a command answers, accepted or refused, in the form that C is handed.
+/// What a command answers, laid out as C has it; Specification: Answers.
 #[repr(C)]
 #[derive(Clone, Copy, Debug, PartialEq, Eq)]
 pub struct Answer {
-    /// 0, or the number of the refusal, 4 to 13.
+    /// 0 if the command is accepted, else the refusal's number, 4 to 13.
     pub number: u32,
-    /// The place record to go on from; after a refusal the one where the command began.
+    /// The place record after the command; after a refusal that before it.
     pub place: Place,
-    /// The opened word; 0 unless an open was accepted.
+    /// The opened word of an accepted open, otherwise 0.
     pub opened: u32,
 }
 
-// The form in which a caller of a step takes the answer. Each of the two callers has its own form, and so its own copy
-// of the step.
+// The form in which a caller of `step` takes the answer. Both callers have a form and so a copy of the step.
 pub(crate) trait Form {
     ghost read: { place.Place → Self → answer.Answer };
 
-    // The answer of a command that began at `place`.
+    // The answer of a command from `place`.
     fn of(place: Place, answered: Result<Accepted, Refusal>) -> Self
         ensures { read place result ≡ spec.answer_of place answered };
 }
 
-// The form of a single command.
+// The form for a single command.
 impl Form for Answer {
     ghost read = { λ p a. a };
 
@@ -59,7 +58,7 @@ impl Form for Answer {
     }
 }
 
-// The form of a run, which goes on from an accepted command.
+// The form for a run, which goes on from what an accepted command answers.
 impl Form for Result<Accepted, Refusal> {
     ghost read = { spec.answer_of };
 
@@ -69,11 +68,11 @@ impl Form for Result<Accepted, Refusal> {
     }
 }
 
-/// What a run of commands answers.
+/// What a run up to the first refusal answers; Specification: Runs.
 #[derive(Clone, Copy, Debug, PartialEq, Eq)]
 pub struct Run {
-    /// How many commands were done: all of them, or those before the first refused one.
+    /// How many commands were done: all, or those before the first refusal.
     pub done: usize,
-    /// The answer of the last command that was tried. Where none was tried, it is number 0 with the place of the start.
+    /// The answer of the last command that was tried; without a command, number 0 and the place record of the start.
     pub last: Answer,
 }

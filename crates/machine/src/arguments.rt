@@ -1,4 +1,4 @@
-//! What a command works on.
+//! What a command's protocol works on; Specification: Accepted commands.
 ghost use Rattle.std.specs.Prelude.{◌≡◌, ◌+◌, ◌≤◌, length};
 ghost use Rattle.machine.specs.Lent.{shares_at, tables_of};
 ghost use Rattle.machine.specs.Command.{arguments};
@@ -10,10 +10,10 @@ use super::row::{Row, Use};
 use protocols::place::Place;
 use protocols::shares::Shares;
 
-/// What a command works on. Of what its row does not name nothing is used.
+/// What a protocol works on. A command uses the parts that its `Row` names.
 #[derive(Clone, Copy)]
 pub struct Arguments {
-    /// The next input.
+    /// The next input, for store.
     pub input: u32,
     /// The shares of the handle in field a.
     pub u: Shares,
@@ -22,7 +22,7 @@ pub struct Arguments {
 }
 
 impl Tables<'_> {
-    // The shares of the handle in a field. Where the field holds no handle, nothing is read.
+    // The shares of the handle in a field, if it is one.
     #[inline(always)]
     fn operand(&self, field: Use, h: u32) -> Shares
         requires { IfHandle field (HasEntry (tables_of self.now) h) }
@@ -34,7 +34,7 @@ impl Tables<'_> {
         }
     }
 
-    // What a command works on, as far as its row names it. The rest is 0.
+    // The parts that the command's row names; the others are 0.
     #[inline(always)]
     pub(crate) fn arguments(&self, x: Row, c: Command, p: Place, inputs: &[u32]) -> Arguments
         requires inputs { p.inputs + x.inputs ≤ length inputs.now }

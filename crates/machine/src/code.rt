@@ -1,10 +1,10 @@
-//! A command as a caller asks for it.
+//! A command as a caller gives it.
 
-/// A command: its code word and its two fields. What a field holds depends on the code, as `commands` says of each: a
-/// handle, which counts from 1, a word, a position in a word, or 0 where the field is unused.
+/// A command, of three words; Specification: Table of commands. By the code a field is a handle (the first is 1), any
+/// word, a bit position (0 to 31), or unused and 0; `commands` says which.
 #[derive(Clone, Copy, Debug, PartialEq, Eq)]
 pub struct Command {
-    /// 1 to 12, in the order of `commands`. Any other word is refused with number 5.
+    /// Which command: 1 to 12, in the order of `commands`. Any other word is refused with 5.
     pub code: u32,
     /// The first field.
     pub a: u32,

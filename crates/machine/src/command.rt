@@ -1,4 +1,4 @@
-//! One command on lent lists.
+//! One command; Specification: Accepted commands, Specification: Refused commands.
 ghost use Rattle.std.specs.Prelude.{◌≡◌};
 ghost use Rattle.protocols.specs.Lent.{SameLists};
 ghost use Rattle.machine.specs.Lent.{lent_lists_of, SameTables};
@@ -13,16 +13,15 @@ use super::step;
 use protocols::lent::{Lists, Tapes};
 use protocols::place::Place;
 
-/// Runs one command from `place`, on share tables, inputs, tapes and received lists that the caller lends. Answers 0,
-/// the place record to go on from and the opened word, or the number of a refusal, 4 to 13.
+/// Does one command from the place record `place`. It answers 0, the next place record and the word that is opened, or
+/// the number of a refusal, 4 to 13.
 ///
-/// An accepted command writes the new handle's entries of `tables`, if a value is due, and puts the words that each
-/// party receives into its list of `lists`, behind those that the list has by `place`; it writes no other word. The
-/// place in the answer has moved on by the new handle, the input, the words drawn and the words received. `Operation`
-/// and `commands` say how many these are.
+/// If the command is accepted, it writes the new value, if there is one, to the next entries of `tables`, and the words
+/// that each party receives into its list of `lists`, behind those that `place` counts: as many as the command's `Row`
+/// has; Specification: Accepted commands.
 ///
-/// A refused command writes nothing, and its answer has `place` as it was. All lists may be of any length and hold any
-/// words: where the lengths, the kinds and `place` do not fit each other, the answer is number 4.
+/// If it is refused, it writes nothing and answers `place`; Specification: Refused commands. No list needs a certain
+/// length or content: if lengths, kinds and `place` do not fit, the refusal is 4.
 pub fn command(
     c: Command,
     place: Place,

@@ -1,4 +1,6 @@
-//! The twelve commands, in the order of their code words. Of each stand here its line of the table and its protocol.
+//! The twelve commands in the order of their codes, each with its line of the table and its protocol;
+//! Specification: Table of commands. Below, a and b are the values of the handles in these fields, and all sums,
+//! differences and products are modulo 2^32.
 ghost use Rattle.machine.specs.Table as codes;
 
 use super::arguments::Arguments;
@@ -11,8 +13,8 @@ use protocols::outcome::{Done, Shortage};
 use protocols::place::Place;
 use protocols::{below, bit, bits, equal, local, multiply, open, reshare, store};
 
-/// Code 1, `store`: the next input becomes a ring value. Both fields are unused. The provider draws 2 words, and each
-/// miner receives 1. Where all inputs are used, it is refused with number 11.
+/// Code 1, `store`: the next input becomes a ring value; Specification: Store. Both fields are unused. The provider
+/// draws 2 words, each miner receives 1. If all inputs are used, the refusal is 11.
 pub struct Store;
 
 impl Operation for Store {
@@ -43,8 +45,7 @@ impl Operation for Store {
     }
 }
 
-/// Code 2, `add`: the new ring value is a + b, of the ring values that the handles a and b name. All sums, differences
-/// and products of commands are modulo 2^32. No word is drawn or received.
+/// Code 2, `add`: a + b of two ring values; Specification: Local commands. No word is drawn or received.
 pub struct Add;
 
 impl Operation for Add {
@@ -70,8 +71,7 @@ impl Operation for Add {
     }
 }
 
-/// Code 3, `subtract`: the new ring value is a - b, of the ring values that the handles a and b name. No word is drawn
-/// or received.
+/// Code 3, `subtract`: a - b of two ring values; Specification: Local commands. No word is drawn or received.
 pub struct Subtract;
 
 impl Operation for Subtract {
@@ -97,8 +97,8 @@ impl Operation for Subtract {
     }
 }
 
-/// Code 4, `add constant`: the new ring value is a + b, of the ring value that the handle a names and the word b. No
-/// word is drawn or received.
+/// Code 4, `add constant`: a ring value a plus the word in field b; Specification: Local commands. No word is drawn or
+/// received.
 pub struct AddConstant;
 
 impl Operation for AddConstant {
@@ -124,8 +124,8 @@ impl Operation for AddConstant {
     }
 }
 
-/// Code 5, `times constant`: the new ring value is a times b, of the ring value that the handle a names and the word b.
-/// No word is drawn or received.
+/// Code 5, `times constant`: a ring value a times the word in field b; Specification: Local commands. No word is drawn
+/// or received.
 pub struct TimesConstant;
 
 impl Operation for TimesConstant {
@@ -151,8 +151,7 @@ impl Operation for TimesConstant {
     }
 }
 
-/// Code 6, `multiply`: the new ring value is a times b, of the ring values that the handles a and b name. Each miner
-/// draws 2 words and receives 4.
+/// Code 6, `multiply`: a times b of two ring values; Specification: Multiply. Each miner draws 2 words and receives 4.
 pub struct Multiply;
 
 impl Operation for Multiply {
@@ -180,8 +179,8 @@ impl Operation for Multiply {
     }
 }
 
-/// Code 7, `reshare`: the new ring value is a, the ring value that the handle a names, in fresh shares. Field b is
-/// unused. Each miner draws 1 word and receives 1.
+/// Code 7, `reshare`: a ring value a in fresh shares; Specification: Reshare. Field b is unused. Each miner draws 1
+/// word and receives 1.
 pub struct Reshare;
 
 impl Operation for Reshare {
@@ -209,8 +208,8 @@ impl Operation for Reshare {
     }
 }
 
-/// Code 8, `bits`: the new value is a, the ring value that the handle a names, as a bit word. Field b is unused. Miner
-/// 1 draws 15 words, miners 2 and 3 draw 12 each; miners 1, 2 and 3 receive 22, 25 and 25.
+/// Code 8, `bits`: a ring value a as a bit word; Specification: Bits. Field b is unused. Miner 1 draws 15 words, miners
+/// 2 and 3 draw 12 each; miners 1, 2 and 3 receive 22, 25 and 25.
 pub struct Bits;
 
 impl Operation for Bits {
@@ -241,8 +240,8 @@ impl Operation for Bits {
     }
 }
 
-/// Code 9, `bit`: the new ring value is 0 or 1, bit b of the bit word that the handle a names, where b is a position, 0
-/// to 31; any other is refused with number 9. Miner 1 draws 3 words, and miners 2 and 3 receive 3 each.
+/// Code 9, `bit`: one bit of a bit word a, as the ring value 0 or 1; Specification: Bit. Field b is its position, 0 to
+/// 31; for any other word the refusal is 9. Miner 1 draws 3 words, miners 2 and 3 receive 3 each.
 pub struct Bit;
 
 impl Operation for Bit {
@@ -273,8 +272,8 @@ impl Operation for Bit {
     }
 }
 
-/// Code 10, `equal`: the new ring value is 1 where the ring values that the handles a and b name are equal, else 0.
-/// Miner 1 draws 10 words, miners 2 and 3 draw 6 each; miners 1, 2 and 3 receive 11, 15 and 15.
+/// Code 10, `equal`: the ring value 1 if two ring values are equal, else 0; Specification: Equal. Miner 1 draws 10
+/// words, miners 2 and 3 draw 6 each; miners 1, 2 and 3 receive 11, 15 and 15.
 pub struct Equal;
 
 impl Operation for Equal {
@@ -302,9 +301,9 @@ impl Operation for Equal {
     }
 }
 
-/// Code 11, `open`: the controller receives three fresh shares of the ring value that the handle a names, and the
-/// answer has that value as its opened word. Field b is unused, and there is no new value. Each miner draws 1 word and
-/// receives 1; the controller receives 3.
+/// Code 11, `open`: the controller receives fresh shares of a ring value a, and the value is answered as opened word;
+/// Specification: Open. Field b is unused, and there is no new value. Each miner draws 1 word and receives 1, the
+/// controller receives 3.
 pub struct Open;
 
 impl Operation for Open {
@@ -335,8 +334,8 @@ impl Operation for Open {
     }
 }
 
-/// Code 12, `below`: the new ring value is 0 or 1, bit 31 of a - b, of the ring values that the handles a and b name.
-/// Miner 1 draws 18 words, miners 2 and 3 draw 12 each; miners 1, 2 and 3 receive 22, 28 and 28.
+/// Code 12, `below`: bit 31 of a - b of two ring values, as the ring value 0 or 1; Specification: Below. Miner 1 draws
+/// 18 words, miners 2 and 3 draw 12 each; miners 1, 2 and 3 receive 22, 28 and 28.
 pub struct Below;
 
 impl Operation for Below {

@@ -1,4 +1,4 @@
-//! The entries of a new handle.
+//! The entries of a new handle; Specification: Handles.
 ghost use Rattle.std.specs.Prelude.{◌≡◌, ◌+◌};
 ghost use Rattle.machine.specs.Lent.{tables_of, SameTables};
 ghost use Rattle.machine.specs.Private.Accept.{HaveEntries, table_entries_of, with_new_entry};
@@ -8,7 +8,7 @@ use super::lent::Tables;
 use protocols::shares::Shares;
 
 impl Tables<'_> {
-    // Writes a value's shares and kind into the same entry of every table and of the kind list, where a value is due.
+    // Writes shares and kind to the position `at` of tables and kind list, if there is a new value (`values` is 1).
     #[inline(always)]
     #[tactic(auto, unfolding(crate::specs::Private::Accept::with_new_entry))]
     pub(crate) fn store(&mut self, values: usize, at: usize, s: Shares, kind: Kind)

@@ -1,5 +1,5 @@
-//! The tests of a command for the numbers 4 and 6 to 11. A protocol itself tests for 12 and 13. Nothing here writes,
-//! and nothing sees a share, an input, a tape word or a received word.
+//! The tests for the refusals 4 and 6 to 11 of a command, which read no share, input, tape or received list;
+//! Specification: Table of refusals. Those for 12 and 13 are in the protocols.
 ghost use Rattle.std.specs.Prelude.{◌≡◌, ◌≤◌, length, nat_le, nat_lt, nat_eq, true};
 ghost use Rattle.protocols.specs.Word.{modulus, sub};
 ghost use Rattle.protocols.specs.Place.{count, every_party};
@@ -18,30 +18,30 @@ use super::row::{Row, Use};
 use protocols::place::{Drawn, Place, Received};
 use protocols::ring;
 
-// ---- number 4
+// ---- refusal 4
 
-// Share tables and kind list are equally long.
+// The share tables are as long as the kind list.
 fn same_length(z: Sizes) -> bool
     ensures { result ≡ same_length z }
 {
     (z.one == z.kinds) & (z.two == z.kinds) & (z.three == z.kinds)
 }
 
-// No tape is drawn from beyond its end.
+// No count of drawn words in a is over that in b.
 fn at_most_drawn(a: Drawn, b: Drawn) -> bool
     ensures { result ≡ every_party (λ i. nat_le (count i a) (count i b)) }
 {
     (a.provider <= b.provider) & (a.one <= b.one) & (a.two <= b.two) & (a.three <= b.three)
 }
 
-// No list has received words beyond its end.
+// No count of received words in a is over that in b.
 fn at_most_received(a: Received, b: Received) -> bool
     ensures { result ≡ every_receiver (λ i. nat_le (count_for i a) (count_for i b)) }
 {
     (a.one <= b.one) & (a.two <= b.two) & (a.three <= b.three) & (a.controller <= b.controller)
 }
 
-// No count of the place record is beyond its list.
+// No count of the place record is over the length of its list.
 fn within_lists(p: Place, z: Sizes) -> bool
     ensures { result ≡ is_within p z }
 {
@@ -51,8 +51,7 @@ fn within_lists(p: Place, z: Sizes) -> bool
         & at_most_received(p.received, z.received)
 }
 
-// A kind less 1, which has no bit but the lowest just where the kind is 1 or 2. Two comparisons in its place take half
-// as much time again.
+// The kind less 1: it is below 2 exactly if the kind is 1 or 2. Two comparisons instead take half as long again.
 #[tactic(auto, using(crate::proofs::Laws::KindTest::kind_less_one))]
 fn less_one(kind: u32) -> u32
     ensures difference { result ≡ sub (modulus 5) kind 1 }
@@ -61,7 +60,7 @@ fn less_one(kind: u32) -> u32
     ring::sub(kind, 1)
 }
 
-// Whether all are 1 or 2. The loop has no early exit, so that the compiler can look at several at once.
+// All words are 1 or 2. The loop has no early exit, so that the compiler can test several words at once.
 fn are_kinds(kinds: &[u32]) -> bool
     ensures { result ≡ are_kinds kinds.now }
 {
@@ -72,7 +71,7 @@ fn are_kinds(kinds: &[u32]) -> bool
     seen < 2
 }
 
-// Whether number 4 does not apply.
+// Refusal 4 does not apply.
 pub(crate) fn is_sound(p: Place, z: Sizes, kinds: &[u32]) -> bool
     ensures { result ≡ is_sound p z kinds.now }
 {
@@ -80,9 +79,9 @@ pub(crate) fn is_sound(p: Place, z: Sizes, kinds: &[u32]) -> bool
     same_length(z) && within_lists(p, z) && are_kinds(filled)
 }
 
-// ---- numbers 6 to 11: what a command's row asks of each field, of the tables and of the inputs
+// ---- refusals 6 to 11: what a command's row asks of its fields, the tables and the inputs
 
-// Number 6: an unused field is 0.
+// 6: an unused field is 0.
 #[inline(always)]
 fn is_zero_if_unused(field: Use, word: u32) -> bool
     ensures { result ≡ spec.meets field (nat_eq word 0) true true }
@@ -93,7 +92,7 @@ fn is_zero_if_unused(field: Use, word: u32) -> bool
     }
 }
 
-// Number 7: a handle counts from 1 and is filled. Handle 0 less 1 wraps to more than any count.
+// 7: a handle is at least 1 and filled. 0 less 1 wraps to more than any count.
 #[inline(always)]
 fn is_filled_if_handle(field: Use, p: Place, h: u32) -> bool
     ensures { result ≡ spec.meets field true (spec.is_filled p h) true }
@@ -104,7 +103,7 @@ fn is_filled_if_handle(field: Use, p: Place, h: u32) -> bool
     }
 }
 
-// Number 8: a filled handle is of the operands' kind.
+// 8: a filled handle has the kind that the command takes.
 #[inline(always)]
 fn is_of_kind_if_handle(field: Use, kinds: &[u32], h: u32, kind: Kind) -> bool
     requires counted { IfHandle field (1 ≤ h) }
@@ -117,7 +116,7 @@ fn is_of_kind_if_handle(field: Use, kinds: &[u32], h: u32, kind: Kind) -> bool
     }
 }
 
-// Number 9: a position is one of a word.
+// 9: a bit position is under 32.
 #[inline(always)]
 fn is_in_word_if_position(field: Use, word: u32) -> bool
     ensures { result ≡ spec.meets field true true (nat_lt word 32) }
@@ -128,7 +127,7 @@ fn is_in_word_if_position(field: Use, word: u32) -> bool
     }
 }
 
-// Number 10: the tables have an entry left for a new value.
+// 10: the tables have an entry left for a new value.
 #[inline(always)]
 fn tables_have(x: Row, p: Place, entries: usize) -> bool
     ensures { result ≡ spec.tables_have x p entries }
@@ -136,7 +135,7 @@ fn tables_have(x: Row, p: Place, entries: usize) -> bool
     x.values <= entries.saturating_sub(p.handles)
 }
 
-// Number 11: an input is left for a command that takes one.
+// 11: an input is left for store.
 #[inline(always)]
 fn inputs_have(x: Row, p: Place, inputs: usize) -> bool
     ensures { result ≡ spec.inputs_have x p inputs }
@@ -144,8 +143,8 @@ fn inputs_have(x: Row, p: Place, inputs: usize) -> bool
     x.inputs <= inputs.saturating_sub(p.inputs)
 }
 
-// The refusal with the lowest number from 6 to 11 that applies, if one does. Entries and inputs are counts and no
-// lists, so that no share or input is seen.
+// The lowest of the refusals 6 to 11 that applies, if any; Specification: Order of refusals. It is given how many
+// entries and inputs there are, and so sees none of them.
 #[inline(always)]
 pub(crate) fn row_refusal(
     x: Row,

@@ -1,20 +1,20 @@
-//! The kinds of values.
+//! The kinds of values; Specification: Kinds.
 ghost use Rattle.std.specs.Prelude.{◌≡◌, Some};
 ghost use Rattle.machine.specs.Table.{kind_number};
 ghost use Rattle.machine.specs.Printed as printed;
 
 use std::fmt;
 
-/// How a value's three shares give it. The kind list has the kinds by number, a word for each handle.
+/// A value's kind, which says how its three shares combine; Specification: Shares.
 #[derive(Clone, Copy, Debug, PartialEq, Eq)]
 pub enum Kind {
-    /// The shares add up to the value modulo 2^32.
+    /// The value is the sum of the shares modulo 2^32.
     RingValue,
-    /// The shares give the value by exclusive or.
+    /// The value is the exclusive or of the shares.
     BitWord,
 }
 
-/// The kind's number in the kind list: 1 or 2.
+/// The kind's number in the kind list: 1 for a ring value, 2 for a bit word.
 impl From<Kind> for u32 {
     fn from(kind: Kind) -> u32
         ensures { result ≡ kind_number kind }
@@ -26,7 +26,7 @@ impl From<Kind> for u32 {
     }
 }
 
-/// Writes the kind's name in the table of commands.
+/// Writes the kind's name.
 impl fmt::Display for Kind {
     ghost output = { λ k. Some (printed.kind k) };
 

@@ -1,4 +1,4 @@
-//! What is lent to a command.
+//! The share tables and the kind list, and the lengths of all lent lists; Specification: Lent lists.
 ghost use Rattle.std.specs.Prelude.{◌≡◌};
 ghost use Rattle.protocols.specs.Place.{lists};
 ghost use Rattle.protocols.specs.Lent.{tapes_of};
@@ -9,20 +9,20 @@ use protocols::lent::Tapes;
 use protocols::place::{Drawn, Received};
 use protocols::shares::Shares;
 
-/// Three share tables and the kind list. Each has a word for every handle; entry 0 is that of handle 1. Where the four
-/// differ in length, every command is refused with number 4.
-// Tables, inputs, tapes and received lists are not one struct: a contract cannot say what the lists of a struct within
-// a lent struct hold after a call, and sessions are lent tables and lists alone.
+/// The three share tables and the kind list, with a word for each handle: index 0 is handle 1. If their lengths differ,
+/// every command is refused with 4.
+// No struct has all lent lists: a contract cannot say what the lists of a struct within a lent struct hold after a
+// call, and a session is lent tables and received lists only.
 #[repr(C)]
 #[derive(Drop)]
 pub struct Tables<'a> {
-    /// Miner 1's shares, a word for each handle.
+    /// Miner 1's shares.
     pub one: &'a mut [u32],
-    /// Miner 2's shares, a word for each handle.
+    /// Miner 2's shares.
     pub two: &'a mut [u32],
-    /// Miner 3's shares, a word for each handle.
+    /// Miner 3's shares.
     pub three: &'a mut [u32],
-    /// The kinds by number, a word for each handle: 1 of a ring value, 2 of a bit word.
+    /// The kinds: 1 for a ring value, 2 for a bit word.
     pub kinds: &'a mut [u32],
 }
 
@@ -41,7 +41,7 @@ impl Tables<'_> {
         }
     }
 
-    /// The kind list, for code that may see no share.
+    /// The kind list, to be read.
     pub fn kinds(&self) -> &[u32]
         ensures { result.now ≡ self.now.kinds.now }
     {
@@ -64,14 +64,14 @@ pub struct Sizes {
     pub inputs: usize,
     /// The four tapes.
     pub tapes: Drawn,
-    /// The four lists of received words.
+    /// The four received lists.
     pub received: Received,
 }
 
 impl Sizes {
-    /// The lengths, in words, of these share tables, kind list, inputs, tapes and received lists of miners 1 to 3 and
-    /// the controller.
-    // The lists come one by one, to be read: a caller may have none that it can write, as `Tables` and `Lists` have.
+    /// The lengths of these lists, in words: the tables of miners 1 to 3, kinds, inputs, tapes, and the received lists
+    /// of miners 1 to 3 and the controller.
+    // The lists are only read and so come one by one: `Tables` and `Lists` have lists that can be written.
     pub fn of(
         one: &[u32],
         two: &[u32],

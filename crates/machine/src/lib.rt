@@ -1,4 +1,4 @@
-//! The command machine: twelve commands on lent share tables, tapes and received lists.
+//! The command machine: twelve commands on lent lists, one at a time or as a run; Specification: Commands.
 #![tactic(auto)]
 
 mod accept;

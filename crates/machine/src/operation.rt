@@ -1,4 +1,4 @@
-//! A command as a step needs it: its line of the table, and its protocol.
+//! What each command has: its line of the table, and its protocol; Specification: Table of commands.
 ghost use Rattle.std.specs.Prelude.{◌≡◌};
 ghost use Rattle.protocols.specs.Protocol.{perform};
 ghost use Rattle.protocols.specs.Outcome.{outcome, delivery_of, delivery};
@@ -13,20 +13,20 @@ use protocols::lent::{Lists, Tapes};
 use protocols::outcome::{Done, Shortage};
 use protocols::place::Place;
 
-/// A command of one protocol. Each of the twelve is a type in `commands`. The step is compiled for each, and its copy
-/// has only the tests, reads and writes that the row asks for.
+/// A command. Each of the twelve is a type in `commands`, and the step is compiled for each, with only the tests, reads
+/// and writes that its row needs.
 pub trait Operation {
-    /// Which of the twelve commands it is.
+    /// Which command it is.
     ghost code: { Code };
 
-    /// Its line of the table of commands, over words of 32 bits.
+    /// Its line of the table.
     fn row() -> Row
         ensures { result ≡ table.row 5 code };
 
-    /// Plays its protocol on the next words of each tape after `place`, and puts the words that each party receives to
-    /// the front of its list of `lists`. `b` is the command's field b; of `arguments` it uses what its row names.
-    /// Answers the new value's shares and the place, moved on by the words drawn. Where a tape has too few words left,
-    /// or else a list too little room, it answers a `Shortage`, and no list has changed.
+    /// Plays its protocol, on the field `b`, the `arguments` that its row names and the next words of the tapes, and
+    /// writes the words that each party receives to the front of its list. Answers the shares of the new value (of
+    /// open, those for the controller) and the place with the drawn words counted. If a tape has too few words, or else
+    /// a list too little room, it answers a `Shortage` and writes nothing.
     fn play(
         b: u32,
         arguments: Arguments,

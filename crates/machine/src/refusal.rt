@@ -1,4 +1,4 @@
-//! Why a command or a session is refused.
+//! The refusals of commands and sessions; Specification: Table of refusals.
 ghost use Rattle.std.specs.Prelude.{◌≡◌, Some};
 ghost use Rattle.machine.specs.Refusal as spec;
 ghost use Rattle.machine.specs.Printed as printed;
@@ -7,42 +7,63 @@ use protocols::outcome::Shortage;
 use std::error::Error;
 use std::fmt;
 
-/// The lines of the table of refusals, lowest number first. Where several apply, the answer is the one with the lowest
-/// number. A refused command changes nothing, and neither does a session that is refused as a whole, with 1 to 4.
+/// Why a command or a session is refused; Specification: Table of refusals. If several apply, the lowest is answered.
+/// What is refused changes nothing.
 #[derive(Clone, Copy, Debug, PartialEq, Eq)]
 pub enum Refusal {
-    /// 1: the session file is under 48 bytes, or its length in bytes is no multiple of 4.
+    /// 1: the session's file is under 48 bytes, or ends within a word.
     NotWhole,
-    /// 2: a body of the session file does not start where the one before it ends, or the last body does not end the
-    /// file.
+    /// 2: the bodies of the file do not follow one another from word 12 to its end.
     ContentsBroken,
-    /// 3: a body of the session file is over its limit, or its commands are not in threes of words.
+    /// 3: a body of the file is over its limit, or the commands are no multiple of three words.
     OverLimit,
-    /// 4: share tables and kind list differ in length, a count of the place record is beyond its list, the kind of a
-    /// filled handle is neither 1 nor 2, or a session is lent under 7,692 words.
+    /// 4: the lent lists do not fit: the tables are not as long as the kind list, a count of the place record is over
+    /// its list, a filled handle's kind is neither 1 nor 2, or a session is lent under 7,692 words.
     LentUnsoundly,
-    /// 5: no command has the code word.
+    /// 5: no command has the code.
     UnknownCode,
-    /// 6: a field that the command does not use is not 0.
+    /// 6: an unused field is not 0.
     FieldNotZero,
-    /// 7: a used handle is 0 or not filled.
+    /// 7: a handle is 0, or it is not filled.
     HandleNotFilled,
-    /// 8: a used handle is filled with a value of the other kind.
+    /// 8: a handle has another kind than the command takes.
     WrongKind,
     /// 9: a bit position is over 31.
     PositionOutside,
-    /// 10: a new value is due, and every entry of the share tables is filled.
+    /// 10: the command makes a value, and every entry of the tables is filled.
     TablesFull,
-    /// 11: an input is to be stored, and all are used.
+    /// 11: the command is store, and every input is used.
     InputsUsed,
-    /// 12: a tape has fewer words left than the command draws from it.
+    /// 12: the words left on a tape are fewer than the command's draws.
     TapeSpent,
-    /// 13: a received list has room for fewer words than the command puts into it.
+    /// 13: the room left in a received list is less than the command's words for it.
     ListFull,
 }
 
 impl Refusal {
-    /// What is wrong and what mends it, in a line: in lower case, without a full stop.
+    /// The refusal with this number, 1 to 13. Specification: Table of refusals.
+    pub fn of_number(number: u32) -> Option<Refusal>
+        ensures { result ≡ spec.refusal_numbered number }
+    {
+        match number {
+            1 => Some(Refusal::NotWhole),
+            2 => Some(Refusal::ContentsBroken),
+            3 => Some(Refusal::OverLimit),
+            4 => Some(Refusal::LentUnsoundly),
+            5 => Some(Refusal::UnknownCode),
+            6 => Some(Refusal::FieldNotZero),
+            7 => Some(Refusal::HandleNotFilled),
+            8 => Some(Refusal::WrongKind),
+            9 => Some(Refusal::PositionOutside),
+            10 => Some(Refusal::TablesFull),
+            11 => Some(Refusal::InputsUsed),
+            12 => Some(Refusal::TapeSpent),
+            13 => Some(Refusal::ListFull),
+            _ => None,
+        }
+    }
+
+    /// What is wrong and how to mend it, in one line; Specification: Sentences.
     pub fn sentence(self) -> &'static str
         ensures { result.now ≡ printed.sentence self }
     {
@@ -82,7 +103,7 @@ impl Refusal {
     }
 }
 
-/// Writes the number and the sentence, as `refused 6: a field that the command does not use is not 0; set it to 0`.
+/// Writes number and sentence, as in `refused 11: all inputs are used; lend one for each store`.
 impl fmt::Display for Refusal {
     ghost output = { λ r. Some (printed.refusal r) };
 
@@ -95,7 +116,7 @@ impl fmt::Display for Refusal {
 
 impl Error for Refusal {}
 
-/// The refusal's number, 1 to 13: its line of the table.
+/// The refusal's number, 1 to 13.
 impl From<Refusal> for u32 {
     fn from(refusal: Refusal) -> u32
         ensures { result ≡ spec.refusal_number refusal }
@@ -118,7 +139,7 @@ impl From<Refusal> for u32 {
     }
 }
 
-/// The refusal of a command whose protocol lacks words on a tape or room in a list.
+/// The refusal, 12 or 13, of a command whose protocol lacks words or room.
 impl From<Shortage> for Refusal {
     ghost from_gives = { λ shortage refusal. refusal ≡ spec.shortage_refusal shortage };
 

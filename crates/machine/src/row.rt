@@ -1,4 +1,4 @@
-//! A line of the table of commands.
+//! A line of the table of commands; Specification: Table of commands.
 ghost use Rattle.std.specs.Prelude.{◌≡◌};
 ghost use Rattle.protocols.specs.Place.{counts};
 ghost use Rattle.protocols.specs.Counts.{received_counts};
@@ -7,28 +7,27 @@ ghost use Rattle.machine.specs.Table as spec;
 use super::kind::Kind;
 use protocols::place::{Drawn, Received};
 
-/// What a field of a command holds.
+/// What a command uses a field for; Specification: Table of commands.
 #[derive(Clone, Copy, Debug, PartialEq, Eq)]
 pub enum Use {
-    /// Nothing: the field is 0, or number 6 refuses it.
+    /// Nothing: any word but 0 is refused with 6.
     Unused,
-    /// A handle, which counts from 1: number 7 refuses 0 and one that is not filled, number 8 a value of the wrong
-    /// kind.
+    /// A handle: 0 and one that is not filled are refused with 7, a value of the wrong kind with 8.
     Handle,
-    /// A word, which may be any.
+    /// Any word.
     Word,
-    /// A position in a word, 0 to 31: number 9 refuses any other.
+    /// A bit position, 0 to 31: any other word is refused with 9.
     Position,
 }
 
-/// A command's line of the table. The place record moves on by its counts.
+/// A command's line of the table: the place record moves on by its counts; Specification: Accepted commands.
 #[derive(Clone, Copy, Debug, PartialEq, Eq)]
 pub struct Row {
-    /// What field a holds.
+    /// What field a is.
     pub a: Use,
-    /// What field b holds.
+    /// What field b is.
     pub b: Use,
-    /// The kind of the values that the handles name.
+    /// The kind that its handles must have.
     pub operands: Kind,
     /// The kind of the new value.
     pub kind: Kind,
@@ -42,7 +41,7 @@ pub struct Row {
     pub drawn: Drawn,
 }
 
-// Counts of received words, of miners 1 to 3 and the controller.
+// The received words of miners 1 to 3 and the controller.
 pub(crate) fn received_counts(one: usize, two: usize, three: usize, controller: usize) -> Received
     ensures { result ≡ received_counts one two three controller }
 {
@@ -54,7 +53,7 @@ pub(crate) fn received_counts(one: usize, two: usize, three: usize, controller: 
     }
 }
 
-// Counts of drawn words, of the provider and miners 1 to 3.
+// The drawn words of the provider and miners 1 to 3.
 pub(crate) fn counts(provider: usize, one: usize, two: usize, three: usize) -> Drawn
     ensures { result ≡ counts provider one two three }
 {
@@ -66,7 +65,7 @@ pub(crate) fn counts(provider: usize, one: usize, two: usize, three: usize) -> D
     }
 }
 
-// The row of a command that makes one ring value, from ring values and no input.
+// The row of a command that makes a ring value from ring values.
 pub(crate) fn ring_row(a: Use, b: Use, received: Received, drawn: Drawn) -> Row
     ensures { result ≡ spec.row_of a b Kind.RingValue Kind.RingValue 1 0 received drawn }
 {
@@ -82,7 +81,7 @@ pub(crate) fn ring_row(a: Use, b: Use, received: Received, drawn: Drawn) -> Row
     }
 }
 
-// The row of such a command that draws and sends no word.
+// The row of a local command.
 pub(crate) fn local_row(a: Use, b: Use) -> Row
     ensures { result ≡ spec.row_of a b Kind.RingValue Kind.RingValue 1 0 (received_counts 0 0 0 0) (counts 0 0 0 0) }
 {

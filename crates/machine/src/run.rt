@@ -1,4 +1,4 @@
-//! Commands on lent lists, up to the first that is refused.
+//! A run up to the first refusal; Specification: Runs.
 ghost use Rattle.std.specs.Prelude.{◌≡◌, true, cond, nat_lt};
 ghost use Rattle.protocols.specs.Lent.{SameLists};
 ghost use Rattle.machine.specs.Lent.{lent_lists_of, SameTables, sizes};
@@ -14,7 +14,7 @@ use super::step;
 use protocols::lent::{Lists, Tapes};
 use protocols::place::Place;
 
-// What a run answers where number 4 applies: it refuses the first command, if there is one.
+// What a run answers if refusal 4 applies: it refuses the first command, if there is one.
 fn refuse_first(words: usize, start: Place) -> Run
     ensures done { result.done ≡ 0 }
     ensures last { result.last ≡ answer (cond (nat_lt words 3) 0 4) start 0 }
@@ -33,7 +33,7 @@ fn refuse_first(words: usize, start: Place) -> Run
     }
 }
 
-// A run where number 4 does not apply. No command makes it apply, so it is not tested again.
+// A run if refusal 4 does not apply. It then applies to no later command, and is not tested again.
 fn run_soundly(
     commands: &[u32],
     start: Place,
@@ -73,13 +73,11 @@ fn run_soundly(
     }
 }
 
-/// Runs commands in order, up to the first that is refused. `commands` has three words for each: code, a and b; one or
-/// two words left over at the end are ignored. Each command goes on from the place where the one before it ended, the
-/// first from `start`, and each is lent and writes what `command` says.
+/// Does commands in order from the place record `start`, each as `command` does, up to the first that is refused;
+/// Specification: Runs. `commands` has three words for each: code, a, b. One or two words left over are ignored.
 ///
-/// Answers how many commands were done, and the answer of the last one that was tried. A refused command writes
-/// nothing; what the commands before it wrote remains. Where the lengths, the kinds and `start` do not fit each other,
-/// the first command is refused with number 4.
+/// Answers how many commands were done, and the answer of the last one that was tried. What the commands before a
+/// refused one wrote remains. If lengths, kinds and `start` do not fit, the first command is refused with 4.
 pub fn run(
     commands: &[u32],
     start: Place,

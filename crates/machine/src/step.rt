@@ -1,4 +1,4 @@
-//! One command, where number 4 does not apply.
+//! One command, if refusal 4 does not apply to it.
 ghost use Rattle.std.specs.Prelude.{◌≡◌, true, Ok};
 ghost use Rattle.protocols.specs.Lent.{SameLists};
 ghost use Rattle.machine.specs.Lent.{lent_lists_of, SameTables, sizes};
@@ -20,7 +20,7 @@ use super::{accept, judge};
 use protocols::lent::{Lists, Tapes};
 use protocols::place::Place;
 
-// Whether number 4 does not apply.
+// Refusal 4 does not apply.
 #[inline(always)]
 pub(crate) fn is_lent_soundly(
     place: Place,
@@ -47,7 +47,7 @@ pub(crate) fn is_lent_soundly(
     judge::is_sound(place, sizes, tables.kinds())
 }
 
-// The step of a known command: the tests 6 to 11, and then its protocol. A refused command writes nothing.
+// The step of a known command: the tests for refusals 6 to 11, then its protocol.
 #[inline(always)]
 fn attempt<O: Operation>(
     c: Command,
@@ -76,7 +76,7 @@ fn attempt<O: Operation>(
     accept::accept::<O>(c, place, tables, inputs, tapes, lists)
 }
 
-// The same step, answered in the caller's form.
+// The same, answered in the caller's form.
 fn operation_step<O: Operation, F: Form>(
     c: Command,
     place: Place,
@@ -97,8 +97,8 @@ fn operation_step<O: Operation, F: Form>(
     F::of(place, answered)
 }
 
-// Looks the command up. Each code word has an arm, so that each command has a copy of the step of its own. The arms'
-// order changes no answer: in this one the loop of a run takes the fewest instructions.
+// Looks the command up by its code, or refuses with 5. Each code has an arm and so a copy of the step. In this order of
+// arms, which changes no answer, a run takes the fewest instructions.
 pub(crate) fn step<F: Form>(
     c: Command,
     place: Place,

@@ -1,4 +1,5 @@
--- What is claimed of parties apart: that every protocol is played by a provider and three miners, each on what it has.
+-- What is claimed of parties apart, each claim promised by the function that its comment names;
+-- Specification: Parties apart
 use Rattle.std.specs.Prelude.{◌≡◌, ℕ, Bool, cond}
 use Rattle.protocols.specs.declared.place.Party.{Party}
 use Rattle.protocols.specs.declared.place.Party.TheVariants.{Provider, One, Two, Three}
@@ -20,8 +21,8 @@ use Rattle.protocols.specs.Parties.{Process, for_party, connect, PlayedApart}
 use Rattle.protocols.specs.Own.{share, pair, input}
 use Rattle.protocols.specs.Alone.{alone, sends_of, Agree}
 
--- promised by `protocols_apart`: each protocol is played apart. Before it a miner has its own share of each operand,
--- and the provider the input that is stored; after it a miner has its own share of the new value, and nobody has more
+-- promised by `protocols_apart`: each protocol is played apart. Before it a miner has its own share of each operand and
+-- the provider has the input; after it a miner has its own share of the new value, and nobody has more
 pub record ProtocolsApart (n : ℕ) : Type 0 where
   pub store_apart : PlayedApart (store (modulus n)) input share
   pub sum_apart : PlayedApart (locally (sum (modulus n))) pair share
@@ -36,8 +37,8 @@ pub record ProtocolsApart (n : ℕ) : Type 0 where
   pub opening_apart : PlayedApart (opening (modulus n)) share share
   pub below_apart : PlayedApart (below n) pair share
 
--- promised by `by_itself`: of any four processes, what each does by itself, on the list of its received words, settles
--- what the four come to where they are connected
+-- promised by `by_itself`: what each of four programs does by itself, on its received list, determines what the four do
+-- when they are connected
 pub record ByItself (B : Type 0) (r : ℕ) (p : Party → Process r B) : Type 0 where
   -- each ends with the same by itself, and sends the same in each round
   pub alike : let c = connect r p in
@@ -47,7 +48,7 @@ pub record ByItself (B : Type 0) (r : ℕ) (p : Party → Process r B) : Type 0 
   pub agree : let c = connect r p in Agree B r c.sent p c.received
   pub only : let c = connect r p in (w : Lists) → Agree B r c.sent p w → w ≡ c.received
 
--- promised by `same_protocol_view`: of a protocol that is played apart, a miner that has the Same before in two runs,
+-- promised by `same_protocol_view`: if a protocol is played apart, then a miner that in two runs has the Same before,
 -- draws the same words and receives the same words has the same share after both
 abbrev pub SameProtocolView : {S : Type 0} → Protocol S Shares → (Miner → S → S → Type 0) → Type 0
 SameProtocolView {S} f Same = (i : Miner) (s s' : S) (b b' : Tapes)
@@ -58,27 +59,29 @@ SameProtocolView {S} f Same = (i : Miner) (s s' : S) (b b' : Tapes)
 abbrev pub magic : Protocol Shares Shares
 magic = locally (λ s. shares s.one s.one s.three)
 
--- promised by `no_magic`: that is not played apart
+-- promised by `no_magic`: that protocol is not played apart
 abbrev pub NoMagic : Type 0
 NoMagic = ¬ PlayedApart magic share share
 
--- ---- runs mixed of two
+-- ---- runs mixed from two
 
--- shares, operands and tapes of which each party has those of the first run or those of the second
+-- each miner's share in the first run or in the second
 abbrev pub mixed_shares : (Party → Bool) → Shares → Shares → Shares
 mixed_shares first s s' = each (λ i. cond (first (owner i)) (at i s) (at i s'))
 
+-- the same of both operands
 abbrev pub mixed_operands : (Party → Bool) → Operands → Operands → Operands
 mixed_operands first x x' = operands (mixed_shares first x.u x'.u) (mixed_shares first x.v x'.v)
 
+-- each party's tape in the first run or in the second
 abbrev pub mixed_tapes : (Party → Bool) → Tapes → Tapes → Tapes
 mixed_tapes first b b' =
     let its = λ (i : Party). cond (first i) (tape i b) (tape i b') in
     tapes (its Provider) (its One) (its Two) (its Three)
 
--- promised by `mixed_protocol_runs`: of a protocol that is played apart, where two runs deliver the same words, so does
--- each run in which every party has its part of the one or of the other, and each miner ends as in that one: so
--- nobody's words, the provider's and those for the controller among them, are made of what only another party has
+-- promised by `mixed_protocol_runs`: if a protocol is played apart and two runs deliver the same words, then so does
+-- each run in which every party has its part of the one or of the other, and each miner ends as in that one. So
+-- nobody's words, the provider's and those for the controller among them, are made from what only another party has
 pub record MixedProtocolRuns {S : Type 0} (f : Protocol S Shares) (mixed : (Party → Bool) → S → S → S) : Type 0 where
   pub received : (first : Party → Bool) (s s' : S) (b b' : Tapes) → f.received s b ≡ f.received s' b'
       → f.received (mixed first s s') (mixed_tapes first b b') ≡ f.received s b

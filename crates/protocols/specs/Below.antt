@@ -1,4 +1,4 @@
--- Below: the highest bit of a difference.
+-- Below: the highest bit of a difference; Specification: Below
 use Rattle.std.specs.Prelude.{ℕ, ◌-◌}
 use Rattle.protocols.specs.declared.shares.Shares.{Shares}
 use Rattle.protocols.specs.Word.{width, modulus}
@@ -8,6 +8,6 @@ use Rattle.protocols.specs.Local.{difference}
 use Rattle.protocols.specs.Bit.{bit}
 use Rattle.protocols.specs.Bits.{bits}
 
--- the difference as a bit word, and its highest bit as a ring value; the values between have no handles
+-- the difference, its bit word, and the highest bit of that as a ring value; Specification: Below
 unfoldable pub below : ℕ → Protocol Operands Shares
 below n = locally (difference (modulus n)) then bits n then bit (modulus n) (width n - 1)

@@ -1,5 +1,5 @@
--- Bit: one position of a bit word as a ring value.
--- Miner 1 hides its share of the bit and deals it, and miners 2 and 3 learn the bit xor the hidden one.
+-- Bit: one position of a bit word as a ring value; report T-4-10, algorithm 3; Specification: Bit
+-- Miners 2 and 3 get ring shares of b xor u₁, learn s = b xor u₂ xor u₃, and negate the bit in their shares if s = 1.
 use Rattle.std.specs.Prelude.{ℕ, bit_xor}
 use Rattle.protocols.specs.declared.shares.Shares.{Shares}
 use Rattle.protocols.specs.Word.{sub, bit_at, low_bit, choose}
@@ -7,43 +7,47 @@ use Rattle.protocols.specs.Shares.{one, at, each, shares}
 use Rattle.protocols.specs.Place.{Tapes, counts, word, to_two_three, ◌followed_by◌}
 use Rattle.protocols.specs.Protocol.{Protocol}
 
--- bit j of each share
+-- bit j of each share; in the steps below u are these bits
 abbrev pub bits_at : ℕ → Shares → Shares
 bits_at j u = each (λ i. bit_at (at i u) j)
 
--- miner 1 draws a bit b, a word m₁₂ and a bit b₁₂; a random bit is the lowest bit of one drawn word
+-- miner 1's random bit b
 abbrev pub b : Tapes → ℕ
 b t = low_bit (word t one 0)
 
+-- its random word m₁₂
 abbrev pub m₁₂ : Tapes → ℕ
 m₁₂ t = word t one 1
 
+-- its random bit b₁₂
 abbrev pub b₁₂ : Tapes → ℕ
 b₁₂ t = low_bit (word t one 2)
 
--- it shares b xor u₁ as m₁₂ and m₁₃ by sum, and b as b₁₂ and b₁₃ by exclusive or
+-- m₁₂ + m₁₃ = b xor u₁
 abbrev pub m₁₃ : ℕ → Shares → Tapes → ℕ
 m₁₃ m u t = sub m (bit_xor (b t) u.one) (m₁₂ t)
 
+-- b₁₂ xor b₁₃ = b
 abbrev pub b₁₃ : Tapes → ℕ
 b₁₃ t = bit_xor (b t) (b₁₂ t)
 
--- what miner 2 sends to miner 3, and miner 3 to miner 2: together s = b xor u₂ xor u₃
+-- what miner 2 sends to miner 3
 abbrev pub s₂₃ : Shares → Tapes → ℕ
 s₂₃ u t = bit_xor (b₁₂ t) u.two
 
+-- what miner 3 sends to miner 2
 abbrev pub s₃₂ : Shares → Tapes → ℕ
 s₃₂ u t = bit_xor (b₁₃ t) u.three
 
--- shares of the bit: those of b xor u₁ where s is 0, and those of its negation, 1 less it, where s is 1; m₁₂ and m₁₃
--- are x and y
+-- the shares of the bit, with m₁₂ and m₁₃ as x and y: these if s = 0, and of 1 less their sum if s = 1
 abbrev pub chosen_shares : ℕ → ℕ → ℕ → ℕ → Shares
 chosen_shares m s x y = shares 0 (choose s x (sub m 1 x)) (choose s y (sub m 0 y))
 
+-- the same from the shares u of the bit and the drawn words
 abbrev pub converted_shares : ℕ → Shares → Tapes → Shares
 converted_shares m u t = chosen_shares m (bit_xor (s₂₃ u t) (s₃₂ u t)) (m₁₂ t) (m₁₃ m u t)
 
--- miner 2 receives m₁₂ and b₁₂, miner 3 receives m₁₃ and b₁₃, and then each what the other sends
+-- miners 2 and 3 receive m₁₂, m₁₃, then b₁₂, b₁₃, then what they send one another; Specification: Bit
 unfoldable pub bit : ℕ → ℕ → Protocol Shares Shares
 bit m j = record {
   draws = counts 0 3 0 0;

@@ -1,5 +1,5 @@
--- Blindness of one protocol for one who looks on.
--- What such an observer receives and holds tells it nothing of the operands but what it may know.
+-- Blindness of one protocol for one observer; for whole runs see Specification: Blindness
+-- What the observer receives and holds depends on the operands only by what it may know.
 use Rattle.std.specs.Prelude.{◌≡◌, ℕ}
 use Rattle.protocols.specs.declared.place.Party.{Party}
 use Rattle.protocols.specs.declared.place.Party.TheVariants.{Provider, One, Two, Three}
@@ -9,13 +9,13 @@ use Rattle.protocols.specs.Place.{Tapes, tape, Receiver, miner, controller, list
 use Rattle.protocols.specs.Protocol.{Protocol}
 use Rattle.protocols.specs.Contents.{Contents}
 
--- a miner, the controller, or a miner that is controller too
+-- a miner, the controller, or a miner that is the controller too
 pub data Observer : Type 0 where
   watching : Miner → Observer
   controlling : Observer
   both : Miner → Observer
 
--- whose received lists and shares the observer has
+-- whose received list and shares the observer has
 abbrev pub Sees : Observer → Receiver → Type 0
 Sees (watching i) (miner j) = i ≡ j
 Sees (watching i) controller = ⊥
@@ -31,20 +31,21 @@ Holds o One = Sees o (miner one)
 Holds o Two = Sees o (miner two)
 Holds o Three = Sees o (miner three)
 
--- two values, two pairs of operands, that look the same to the observer
+-- two values that look the same to the observer
 abbrev pub SameShares : Observer → Shares → Shares → Type 0
 SameShares o s s' = (i : Miner) → Sees o (miner i) → at i s ≡ at i s'
 
+-- two pairs of operands that look the same to the observer
 abbrev pub SameOperands : Observer → Operands → Operands → Type 0
 SameOperands o x x' = SameShares o x.u x'.u × SameShares o x.v x'.v
 
--- before an open: for the controller the opened word is the same too
+-- two values that look the same to the observer of an open: to the controller their words are the same too
 abbrev pub SameOpened : ℕ → Observer → Shares → Shares → Type 0
 SameOpened m o s s' = SameShares o s s' × (Sees o controller → sum_of m s ≡ sum_of m s')
 
--- For operands s that are Good, `mask s` takes the words that f draws one to one onto as many words below m, `unmask s`
--- back, the observer's own words kept. Two runs with the same masked words, on operands that look the Same, deliver the
--- same words to the observer and leave what looks the same After.
+-- For Good operands s, `mask s` maps the drawn words one to one onto as many words below m and keeps the observer's
+-- own, and `unmask s` maps them back. Two runs with the same masked words, on operands that look the Same to the
+-- observer, deliver the same words to it and leave what looks the same After.
 pub record Blind (m : ℕ) (o : Observer) {S T : Type 0} (f : Protocol S T)
     (Good : S → Type 0) (Same : S → S → Type 0) (After : T → T → Type 0) : Type 0 where
   pub mask : S → Tapes → Tapes

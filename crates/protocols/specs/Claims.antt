@@ -1,6 +1,6 @@
--- What this crate claims of the protocols.
--- Each claim is promised by the function of src/promises.rt that its comment names. Everywhere m is a modulus and n
--- stands for words of 2 ^ n bits; nothing is assumed of shares and drawn words but that each is a word.
+-- What this crate claims of the protocols; each claim is promised by the function of src/promises.rt in its comment.
+-- Everywhere m is a modulus and n stands for words of 2 ^ n bits. Of shares and drawn words nothing is assumed but that
+-- each is a word.
 use Rattle.std.specs.Prelude.{◌≡◌, ℕ, suc, ◌+◌, ◌-◌, ◌*◌, ◌/◌, ◌^◌, ◌<◌, ◌≤◌, ◌==◌, cond, bit_xor}
 use Rattle.std.specs.Prelude.{List, [], ◌∷◌, ◌++◌, length, take, drop, slice_index, Some, None}
 use Rattle.protocols.specs.declared.place.Party.{Party}
@@ -28,13 +28,14 @@ use Rattle.protocols.specs.Counts.{HasCounts, received_counts}
 use Rattle.protocols.specs.Blind.{Observer, SameShares, SameOperands, SameOpened, Blind}
 use Rattle.protocols.specs.Private.WordForm.{word_s, word_p, word_fold}
 
+-- each share of both operands is a word below m
 abbrev pub OperandsAreWords : ℕ → Operands → Type 0
 OperandsAreWords m x = SharesAreWords m x.u × SharesAreWords m x.v
 
--- ---- 1. New shares combine to the right word, whatever is drawn.
+-- ---- 1. New shares combine to the right word, whatever is drawn; Specification: Table of commands
 
 -- promised by `ring_combines`: over any modulus m above 0 the new shares of each ring protocol add up to the right
--- word, and the shares that an opening shows the controller add up to the word that is opened
+-- word, and the shares that the controller receives of an open to the opened word
 pub record RingCombines (m : ℕ) : Type 0 where
   pub store_combines : (v : ℕ) → v < m → (b : Tapes) → sum_of m ((store m).result v b) ≡ v
   pub sum_combines : (x : Operands) → sum_of m (sum m x) ≡ add m (sum_of m x.u) (sum_of m x.v)
@@ -49,8 +50,8 @@ pub record RingCombines (m : ℕ) : Type 0 where
   pub opening_shown : (u : Shares) (b : Tapes)
       → ((opening m).received u b).controller ≡ in_order ((opening m).result u b)
 
--- promised by `bits_combine`: on words of 2 ^ n bits the new shares of Bit, Bits, Equal and Below give the bit, the
--- word, 1 exactly where the operands are equal, and the highest bit of their difference
+-- promised by `bits_combine`: the new shares of Bit, Bits, Equal and Below have as their value the bit, the word
+-- itself, 1 exactly if the operands are equal, and the highest bit of the operands' difference
 pub record BitsCombine (n : ℕ) : Type 0 where
   pub bit_combines : (j : ℕ) (u : Shares) (b : Tapes)
       → sum_of (modulus n) ((bit (modulus n) j).result u b) ≡ bit_at (xor_of u) j
@@ -62,14 +63,15 @@ pub record BitsCombine (n : ℕ) : Type 0 where
       → sum_of (modulus n) ((below n).result x b)
       ≡ bit_at (sub (modulus n) (sum_of (modulus n) x.u) (sum_of (modulus n) x.v)) (width n - 1)
 
--- ---- 2. Each protocol draws and delivers exactly its row's counts, and every word that it makes is a word.
+-- ---- 2. Each protocol draws and delivers what its row says, and all that it makes of words are words;
+-- Specification: Table of commands
 
 -- a row: the words received by miners 1, 2, 3 and controller, and the words drawn by provider and miners 1, 2, 3
 abbrev pub HasRow : ℕ → {S : Type 0} → Protocol S Shares → (S → Type 0) → Received → Drawn → Type 0
 HasRow n f Good k d = HasCounts (modulus n) f Good (SharesAreWords (modulus n)) d k
 
--- promised by `rows`: each protocol on words of 2 ^ n bits draws and delivers exactly its row's counts, and all that
--- it makes of words are words
+-- promised by `rows`: on words of 2 ^ n bits each protocol draws and delivers exactly its row's counts, and makes words
+-- of words
 pub record Rows (n : ℕ) : Type 0 where
   pub store_row : HasRow n (store (modulus n)) (λ v. v < modulus n) (received_counts 1 1 1 0) (counts 2 0 0 0)
   pub sum_row :
@@ -103,10 +105,10 @@ pub record RowsAt32 : Type 0 where
   pub equal_row : HasRow 5 (equal 5) (OperandsAreWords (modulus 5)) (received_counts 11 15 15 0) (counts 0 10 6 6)
   pub below_row : HasRow 5 (below 5) (OperandsAreWords (modulus 5)) (received_counts 22 28 28 0) (counts 0 18 12 12)
 
--- ---- 3. Each protocol is blind for a miner, for the controller, and for a miner that is controller too.
+-- ---- 3. Each protocol is blind for a miner, for the controller, and for a miner that is the controller too.
 
--- promised by `blind_protocols`: what the observer o receives and holds depends on the operands by nothing but what it
--- may know; an opening alone tells the controller the opened word
+-- promised by `blind_protocols`: what the observer o receives and holds depends on the operands only by its own shares
+-- of them, and of an open, for the controller, by the opened word
 pub record BlindProtocols (n : ℕ) (o : Observer) : Type 0 where
   pub store_blind : Blind (modulus n) o (store (modulus n)) (λ v. v < modulus n) (λ v v'. Unit {0}) (SameShares o)
   pub sum_blind :
@@ -131,27 +133,26 @@ pub record BlindProtocols (n : ℕ) (o : Observer) : Type 0 where
       Blind (modulus n) o (opening (modulus n)) (SharesAreWords (modulus n)) (SameOpened (modulus n) o) (SameShares o)
   pub below_blind : Blind (modulus n) o (below n) (OperandsAreWords (modulus n)) (SameOperands o) (SameShares o)
 
--- ---- 4. The code's masks and shifts are the position-wise rounds, for every round k of every width.
+-- ---- 4. The code's rounds on whole words are the rounds position by position, for every round k of every width.
 
--- promised by `word_forms`: round k on whole words, by masks and shifts, is the round position by position
+-- promised by `word_forms`: round k by masks and shifts of whole words is round k position by position
 pub record WordForms (n k : ℕ) : Type 0 where
   pub form_s : (p p' s s' : ℕ) → s < modulus n → word_s n k p p' s s' ≡ round_s (width n) k p p' s s'
   pub form_p : (p p' : ℕ) → word_p n k p p' ≡ round_p (width n) k p p'
   pub form_fold : (p p' : ℕ) → word_fold n k p p' ≡ fold_share (width n) k p p'
 
--- promised by `source_is`: in round k position j takes from the highest lower position whose bit k is clear and whose
--- higher bits agree
+-- promised by `source_is`: in round k the source of position j is the highest position below j that has bit k clear and
+-- j's bits above k; Specification: Carry rounds
 pub record SourceIs (k j : ℕ) : Type 0 where
   pub lower : source k j < j
   pub clear : bit_at (source k j) k ≡ 0
   pub agrees : source k j / 2 ^ suc k ≡ j / 2 ^ suc k
   pub highest : (i : ℕ) → i < j → bit_at i k ≡ 0 → i / 2 ^ suc k ≡ j / 2 ^ suc k → i ≤ source k j
 
--- ---- 5. On lent tapes a protocol is spent exactly when a tape has too few words left, and tapes that it does not draw
--- from do not count.
+-- ---- 5. A protocol is spent exactly if a tape that it draws from has too few words left; Specification: Draws
 
--- promised by `draw_is`: a draw of k words is 0, the next k words and the place moved on by them, or 12, no words and
--- the place as it was, exactly where the tape has fewer words left; so are the code's answers read
+-- promised by `draw_is`: a draw of k words is 0, the next k words and the place moved on by them, or, exactly if fewer
+-- than k are left, 12, no words and the place as it was; the code's Some and None are these two
 pub record DrawIs (k : ℕ) (i : Party) (l : List ℕ) (p : Place) : Type 0 where
   pub drawn_if : k ≤ length l - count i p.drawn
       → draw k i l p
@@ -165,12 +166,12 @@ pub record DrawIs (k : ℕ) (i : Party) (l : List ℕ) (p : Place) : Type 0 wher
       → draw_answer p (Some (w, q)) ≡ record { number = 0; words = Some w; place = q }
   pub spent_answered : draw_answer {T = List ℕ} p None ≡ record { number = 12; words = None; place = p }
 
--- a party has fewer words left at the place than are to be drawn
+-- party i has fewer words left at the place p than n draws from its tape
 abbrev pub Lacks : Drawn → Place → Tapes → Party → Type 0
 Lacks n p t i = length (tape i t) - count i p.drawn < count i n
 
--- promised by `on_tapes`: on lent tapes a protocol is spent exactly where a tape has fewer words left than it draws,
--- else it is done on exactly the next words, and tapes that it does not draw from do not count
+-- promised by `on_tapes`: on lent tapes a protocol is spent exactly if a tape has too few words left for its draws, and
+-- otherwise done on exactly the next words; tapes that it does not draw from do not count
 pub record OnTapes {S T : Type 0} (f : Protocol S T) (s : S) (p : Place) (t : Tapes) : Type 0 where
   pub spent_if : (i : Party) → Lacks f.draws p t i → perform f s p t ≡ spent
   pub done_if : ((i : Party) → ¬ Lacks f.draws p t i)
@@ -189,8 +190,8 @@ pub record OnTapes {S T : Type 0} (f : Protocol S T) (s : S) (p : Place) (t : Ta
   pub other_tapes : (t' : Tapes) → ((i : Party) → 0 < count i f.draws → tape i t ≡ tape i t')
       → perform f s p t ≡ perform f s p t'
 
--- promised by `delivers`: what a protocol made is turned down with number 13 exactly where a list lacks room, and then
--- nothing changes; otherwise every list begins with its words, and the rest of it is as it was
+-- promised by `delivers`: a done protocol is refused with 13 exactly if a list lacks room, and then nothing changes;
+-- otherwise every list begins with its words, and the rest of it is as it was
 pub record Delivers (p : Place) (l : Lists) (s : Shares) (w : Lists) (q : Place) : Type 0 where
   pub full_if : (r : Receiver) → length (list r l) < length (list r w)
       → delivery p (done s w q) l
@@ -204,12 +205,12 @@ pub record Delivers (p : Place) (l : Lists) (s : Shares) (w : Lists) (q : Place)
   pub spent_if : delivery p spent l
       ≡ record { outcome = record { number = 12; shares = shares 0 0 0; place = p }; lists = l }
 
--- ---- 6. Which words each party receives, and in which order.
+-- ---- 6. Which words each party receives, and in which order; Specification: Order of words
 
--- promised by `transcripts`: the words that each party receives of store, reshare, multiply, an opening and Bit,
--- written out over the operands u, v and the words drawn
+-- promised by `transcripts`: the words that each party receives by store, reshare, multiply, open and bit, written out
+-- from the operands u, v and the drawn words
 pub record Transcripts (m : ℕ) : Type 0 where
-  -- the provider's two words, and what is left of the input v
+  -- the provider's two words, and what they leave of the input v
   pub store_words : (v : ℕ) (b : Tapes) →
       let s₁ = slice_index b.provider 0 in
       let s₂ = slice_index b.provider 1 in
@@ -220,7 +221,7 @@ pub record Transcripts (m : ℕ) : Type 0 where
       let r₂ = slice_index b.two 0 in
       let r₃ = slice_index b.three 0 in
       (reshare m).received u b ≡ lists (r₃ ∷ []) (r₁ ∷ []) (r₂ ∷ []) []
-  -- each miner's masks r, s and then its masked shares x, y, at the next miner
+  -- each miner's masks r, s, then its masked shares x, y, at the next miner
   pub multiply_words : (o : Operands) (b : Tapes) →
       let u = o.u in
       let v = o.v in
@@ -237,7 +238,7 @@ pub record Transcripts (m : ℕ) : Type 0 where
       let x₃ = sub m (add m u.three r₃) r₂ in
       let y₃ = sub m (add m v.three s₃) s₂ in
       (multiply m).received o b ≡ lists (r₃ ∷ s₃ ∷ x₃ ∷ y₃ ∷ []) (r₁ ∷ s₁ ∷ x₁ ∷ y₁ ∷ []) (r₂ ∷ s₂ ∷ x₂ ∷ y₂ ∷ []) []
-  -- each miner's mask at the next miner, and the fresh shares at the controller
+  -- each miner's mask, at the next miner, and the fresh shares, at the controller
   pub opening_words : (u : Shares) (b : Tapes) →
       let r₁ = slice_index b.one 0 in
       let r₂ = slice_index b.two 0 in
@@ -246,7 +247,7 @@ pub record Transcripts (m : ℕ) : Type 0 where
       let x₂ = sub m (add m u.two r₂) r₁ in
       let x₃ = sub m (add m u.three r₃) r₂ in
       (opening m).received u b ≡ lists (r₃ ∷ []) (r₁ ∷ []) (r₂ ∷ []) (x₁ ∷ x₂ ∷ x₃ ∷ [])
-  -- of bit j of the shares: what miner 1 deals to miners 2 and 3, and then what these send one another
+  -- of bit j: what miner 1 sends to miners 2 and 3, then what these send one another
   pub bit_words : (j : ℕ) (u : Shares) (b : Tapes) →
       let u₁ = bit_at u.one j in
       let u₂ = bit_at u.two j in

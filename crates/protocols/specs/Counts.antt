@@ -1,4 +1,4 @@
--- What a protocol draws, delivers and makes.
+-- How many words a protocol draws and delivers, and what it makes; Specification: Table of commands
 use Rattle.std.specs.Prelude.{◌≡◌, ℕ, ◌+◌, ◌%◌, ◌^◌, length}
 use Rattle.protocols.specs.declared.place.Drawn.{Drawn}
 use Rattle.protocols.specs.declared.place.Received.{Received}
@@ -8,7 +8,7 @@ use Rattle.protocols.specs.Place.{Tapes, Lists, Receiver, miner, controller, lis
 use Rattle.protocols.specs.Protocol.{Protocol}
 use Rattle.protocols.specs.Contents.{Words, Contents}
 
--- counts of received words: miners 1 to 3, controller
+-- four numbers as the counts of miners 1, 2, 3 and the controller
 abbrev pub received_counts : ℕ → ℕ → ℕ → ℕ → Received
 received_counts a b c d = record { one = a; two = b; three = c; controller = d }
 
@@ -16,15 +16,15 @@ received_counts a b c d = record { one = a; two = b; three = c; controller = d }
 abbrev pub list_lengths : Lists → Received
 list_lengths l = received_counts (length l.one) (length l.two) (length l.three) (length l.controller)
 
--- added up
+-- the sum of two counts, list by list
 abbrev pub plus_received : Received → Received → Received
 plus_received j k = received_counts (j.one + k.one) (j.two + k.two) (j.three + k.three) (j.controller + k.controller)
 
--- a count and more of it, as a 64-bit word has it
+-- the sum of two counts as the code's 64-bit word has it
 abbrev pub count_plus : ℕ → ℕ → ℕ
 count_plus count more = (count + more) % 2 ^ 64
 
--- a place record with more handles, inputs and received words counted
+-- the place moved on by more handles, inputs and received words; Specification: Accepted commands
 abbrev pub with_more : ℕ → ℕ → Received → Place → Place
 with_more handles inputs k p = record {
   handles = count_plus p.handles handles;
@@ -34,14 +34,15 @@ with_more handles inputs k p = record {
       (count_plus p.received.three k.three) (count_plus p.received.controller k.controller);
 }
 
+-- the count of a receiver
 abbrev pub count_for : Receiver → Received → ℕ
 count_for (miner one) k = k.one
 count_for (miner two) k = k.two
 count_for (miner three) k = k.three
 count_for controller k = k.controller
 
--- n words are drawn, and k words delivered, whatever the operands and the drawn words. Of operands that are Good and
--- drawn words below m each word delivered is below m, and the result is Made.
+-- The protocol draws n words and delivers k words, whatever the operands and the drawn words. If the operands are Good
+-- and the drawn words are below m, then each delivered word is below m and the result is Made.
 pub record HasCounts (m : ℕ) {S T : Type 0} (f : Protocol S T) (Good : S → Type 0) (Made : T → Type 0)
     (n : Drawn) (k : Received) : Type 0 where
   pub drawn : f.draws ≡ n

@@ -1,4 +1,4 @@
--- What is lent to a protocol, as the code holds it.
+-- The lent tapes and received lists, as the code holds them; Specification: Lent lists
 use Rattle.std.specs.Prelude.{ℕ, ◌≡◌, Option, Some, None, List, []}
 use Rattle.std.specs.Borrow.{Bor}
 use Rattle.protocols.specs.declared.lent.Lists as code_lists
@@ -14,7 +14,7 @@ tapes_of t = tapes t.provider.now t.one.now t.two.now t.three.now
 abbrev pub lists_of : code_lists.Lists → Lists
 lists_of l = lists l.one.now l.two.now l.three.now l.controller.now
 
--- the same four lists are lent, whatever stands in them
+-- the same four lists are lent, whatever words they hold
 abbrev pub SameLists : code_lists.Lists → code_lists.Lists → Type 0
 SameLists a b =
     (b.one.ghost_name ≡ a.one.ghost_name)
@@ -22,12 +22,12 @@ SameLists a b =
     × (b.three.ghost_name ≡ a.three.ghost_name)
     × (b.controller.ghost_name ≡ a.controller.ghost_name)
 
--- the words that a draw lends
+-- the words of one tape that a draw answers, and the place
 abbrev pub lent_words : Option (Bor (List ℕ) × Place) → Option (List ℕ × Place)
 lent_words (Some (w, q)) = Some (w.now, q)
 lent_words None = None
 
--- the words that a draw lends of each miner's tape
+-- the words of each miner's tape that a draw answers, and the place
 abbrev pub lent_blocks : Option ((Bor (List ℕ) × Bor (List ℕ) × Bor (List ℕ)) × Place) → Option (Tapes × Place)
 lent_blocks (Some ((a, b, c), q)) = Some (tapes [] a.now b.now c.now, q)
 lent_blocks None = None

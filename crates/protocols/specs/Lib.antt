@@ -1,4 +1,4 @@
--- What the protocols are, in the order in which they are read.
+-- The definitions in reading order: what the protocols are; docs/SPECIFICATION.md says the same in words.
 pub mod Word
 pub mod Shares
 pub mod Place
@@ -20,7 +20,7 @@ pub mod Draws
 pub mod Outcome
 pub mod Lent
 pub mod Printed
--- What is claimed of them, and the notions that the claims speak of.
+-- What is claimed of them, and the notions that the claims use.
 pub mod Blind
 pub mod Parties
 pub mod Own
@@ -28,6 +28,6 @@ pub mod Alone
 pub mod Claims
 pub mod Apart
 pub mod Worked
--- What only contracts inside the crate speak of. One claim stands on it: that the code's rounds on whole words, in
--- WordForm, are those of Bits and Equal.
+-- What only contracts inside the crate use. One claim, `word_forms`, is about it: that the code's rounds on whole words
+-- are those of Bits and Equal.
 pub mod Private

@@ -1,12 +1,11 @@
--- Open: fresh shares for the controller, which adds them up. They tell it nothing but the sum, since they are fresh.
+-- Open: fresh shares for the controller, which show it their sum and nothing else; Specification: Open
 use Rattle.std.specs.Prelude.{ℕ}
 use Rattle.protocols.specs.declared.shares.Shares.{Shares}
 use Rattle.protocols.specs.Place.{counts, words, to_next, to_controller, ◌followed_by◌}
 use Rattle.protocols.specs.Protocol.{Protocol}
 use Rattle.protocols.specs.Reshare.{fresh_shares}
 
--- as in reshare each miner sends its mask to the next; the fresh shares go to the controller, in the miners' order, and
--- the miners keep the old ones
+-- each miner sends its mask to the next; the controller receives the fresh shares, and the miners keep their old ones
 unfoldable pub opening : ℕ → Protocol Shares Shares
 opening m = record {
   draws = counts 0 1 1 1;

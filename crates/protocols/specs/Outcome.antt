@@ -1,4 +1,4 @@
--- What a protocol leaves, as values: its outcome, and the lent lists.
+-- What a protocol leaves, as values: its outcome and the received lists; Specification: Received words
 use Rattle.std.specs.Prelude.{ℕ, Bool, cond, ◌&&◌, length, nat_le, Result, Ok, Err}
 use Rattle.std.proofs.lemmas.List.Edits.{sets}
 use Rattle.protocols.specs.declared.shares.Shares.{Shares}
@@ -24,49 +24,52 @@ pub record Outcome : Type 0 where
 abbrev pub success : Shares → Place → Outcome
 success s q = record { number = 0; shares = s; place = q }
 
--- refused: its number, the place as it was, and nothing else
+-- refused: the number, no new shares, and the place as it was; Specification: Refused commands
 abbrev pub failure : ℕ → Place → Outcome
 failure r p = record { number = r; shares = shares 0 0 0; place = p }
 
--- the number of the refusal where a received list has less room left than words are for it
+-- the number of the refusal of a full received list; Specification: Table of refusals
 abbrev pub list_full : ℕ
 list_full = 13
 
--- the number of what the code names
+-- the number of the shortage that the code names
 abbrev pub shortage_number : Shortage → ℕ
 shortage_number TapeSpent = tape_spent
 shortage_number ListFull = list_full
 
--- what the code answers from the place p, with the number and the values of each case
+-- what the code answers from the place p, by number and values
 abbrev pub outcome : Place → Result Done Shortage → Outcome
 outcome p (Ok d) = success d.shares d.place
 outcome p (Err e) = failure (shortage_number e) p
 
--- ---- and the lists
+-- ---- an outcome with the received lists
 
+-- the outcome, and the received lists after it
 pub record Delivery : Type 0 where
   pub outcome : Outcome
   pub lists : Lists
 
+-- a Delivery from its two fields
 abbrev pub delivery_of : Outcome → Lists → Delivery
 delivery_of r l = record { outcome = r; lists = l }
 
--- each list has room for so many words
+-- each list has room for as many words as k counts
 abbrev pub have_room : Lists → Received → Bool
 have_room l k =
     nat_le k.controller (length l.controller)
     && (nat_le k.one (length l.one) && (nat_le k.two (length l.two) && nat_le k.three (length l.three)))
 
--- each list has room for the words that are for it
+-- each list of l has room for the words of w
 abbrev pub have_room_for : Lists → Lists → Bool
 have_room_for l w = have_room l (received_counts (length w.one) (length w.two) (length w.three) (length w.controller))
 
--- The unfilled part of each list is lent here, and the words go to its front.
+-- the words w written to the fronts of the lists l, which here are the unfilled parts of the received lists
 abbrev pub with_fronts : Lists → Lists → Lists
 with_fronts l w =
     lists (sets l.one 0 w.one) (sets l.two 0 w.two) (sets l.three 0 w.three) (sets l.controller 0 w.controller)
 
--- each answer by its number, with its values: what is refused leaves the place and every list as it was
+-- A spent tape is refused first, then a list without room; both leave the place and every list as they were. Otherwise
+-- each list has its words. Specification: Order of refusals; Specification: Accepted commands
 abbrev pub delivery : Place → ProtocolAnswer Shares → Lists → Delivery
 delivery p (done s w q) l =
     cond (have_room_for l w) (delivery_of (success s q) (with_fronts l w)) (delivery_of (failure list_full p) l)

@@ -1,4 +1,4 @@
--- Parties apart: what a party does by itself, four parties connected by rounds, and a protocol that they play so.
+-- Parties apart: one party's program, four parties connected, a protocol that they play; Specification: Parties apart
 use Rattle.std.specs.Prelude.{◌≡◌, ℕ, zero, suc, List, [], ◌∷◌}
 use Rattle.protocols.specs.declared.place.Party.{Party}
 use Rattle.protocols.specs.declared.place.Party.TheVariants.{Provider, One, Two, Three}
@@ -9,17 +9,17 @@ use Rattle.protocols.specs.Counts.{list_lengths}
 
 -- ---- a party
 
--- what a party is sent in a round, by each party
+-- what a party receives in a round, by sender
 abbrev pub Messages : Type 0
 Messages = Party → List ℕ
 
--- What a party does in r rounds, and what it has in the end. In a round it sends words, and then goes on with what it
--- is sent. By this type it knows nothing else of the other parties.
+-- A party's program of r rounds, which ends with a B. In each round the party sends words and then goes on with what it
+-- receives. By this type it knows nothing else of the other parties.
 abbrev pub Process : ℕ → Type 0 → Type 0
 Process zero B = B
 Process (suc r) B = record { sends : Lists; next : Messages → Process r B }
 
--- what of these words is for a party; the provider receives nothing
+-- the words that are for a party; the provider receives none
 abbrev pub for_party : Party → Lists → List ℕ
 for_party Provider l = []
 for_party One l = l.one
@@ -28,7 +28,7 @@ for_party Three l = l.three
 
 -- ---- four parties
 
--- a round's words, of which each list has those of the provider first, and then those of miners 1, 2 and 3
+-- a round's words: in each list the provider's come first, then those of miners 1, 2, 3
 abbrev pub in_turn : (Party → Lists) → Lists
 in_turn o = o Provider followed_by o One followed_by o Two followed_by o Three
 
@@ -39,7 +39,7 @@ pub record SentCounts : Type 0 where
   pub two : Received
   pub three : Received
 
--- the same of a round in which the parties send these words
+-- these counts, from the words that the parties send
 abbrev pub sent_lengths : (Party → Lists) → SentCounts
 sent_lengths o = record {
   provider = list_lengths (o Provider);
@@ -48,17 +48,17 @@ sent_lengths o = record {
   three = list_lengths (o Three);
 }
 
--- what each party has in the end, the lists of received words, and how many words were sent, round by round
+-- what each party ends with, the received lists, and how many words were sent, round by round
 pub record Connection (B : Type 0) : Type 0 where
   pub ends : Party → B
   pub received : Lists
   pub sent : List SentCounts
 
--- such a record, of its three fields in turn
+-- a Connection from its three fields
 abbrev pub connection : {B : Type 0} → (Party → B) → Lists → List SentCounts → Connection B
 connection e l t = record { ends = e; received = l; sent = t }
 
--- the four go through their rounds together, and each has what the others send to it, and no more
+-- four programs together: in each round a party receives the words that are for it, and nothing else
 unfoldable pub connect : {B : Type 0} (r : ℕ) → (Party → Process r B) → Connection B
 connect zero p = connection p silence []
 connect (suc r) p =
@@ -68,10 +68,10 @@ connect (suc r) p =
 
 -- ---- a protocol
 
--- A protocol is played apart if each party has a program, fixed beforehand: a process made of what that party alone has
--- before the protocol and of its own drawn words. Connected, the four end in what each is to have of the protocol's
--- result, and every list receives the protocol's words. How many words are sent, by whom, to whom and in which round,
--- is fixed beforehand too: so neither the length nor the moment of a message tells anything.
+-- A protocol is played apart if each party has a program, fixed in advance, that is made of what this party alone has
+-- before the protocol and of its own drawn words. Connected, the four end with what each is to have of the result, and
+-- every list receives the protocol's words. How many words each sends to each, round by round, is fixed in advance too,
+-- so that neither the length of a message nor its round reveals anything; Specification: Parties apart
 pub record PlayedApart {S T A B : Type 0} (f : Protocol S T) (before : Party → S → A) (after : Party → T → B)
     : Type 0 where
   pub rounds : ℕ

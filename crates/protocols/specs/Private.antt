@@ -1,4 +1,4 @@
--- What only contracts inside the crate speak of.
+-- What only contracts inside the crate use, and the claim `word_forms`.
 pub mod Lending
 pub mod WordForm
 pub mod Bits

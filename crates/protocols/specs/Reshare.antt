@@ -1,4 +1,4 @@
--- Reshare: other shares of the same value.
+-- Reshare: fresh shares of the same value; Specification: Reshare
 use Rattle.std.specs.Prelude.{ℕ}
 use Rattle.protocols.specs.declared.shares.Shares.{Shares}
 use Rattle.protocols.specs.Word.{add, sub}
@@ -6,7 +6,7 @@ use Rattle.protocols.specs.Shares.{prev, at, each}
 use Rattle.protocols.specs.Place.{counts, words, to_next}
 use Rattle.protocols.specs.Protocol.{Protocol}
 
--- each miner adds its own mask and takes off the previous miner's
+-- each miner's share plus its own mask, minus the previous miner's
 abbrev pub fresh_shares : ℕ → Shares → Shares → Shares
 fresh_shares m s r = each (λ i. sub m (add m (at i s) (at i r)) (at (prev i) r))
 

@@ -1,4 +1,4 @@
-//! Below: the highest bit of a difference.
+//! Below: the highest bit of a difference; Specification: Below
 ghost use Rattle.std.specs.Prelude.{◌≡◌};
 ghost use Rattle.protocols.specs.Word.{modulus};
 ghost use Rattle.protocols.specs.Shares.{Operands, operands};
@@ -15,7 +15,7 @@ use super::place::Place;
 use super::shares::Shares;
 use super::{bit, bits, local};
 
-// Below, as a protocol of fixed lengths, on the difference of the operands alone: that is half as many words.
+// Below, as a protocol of fixed lengths; it computes on the difference of the operands, which is half as many words.
 #[derive(Clone, Copy)]
 struct HighestBit {
     u: Shares,
@@ -58,13 +58,14 @@ impl FixedLengths<18, 12, 22, 28> for HighestBit {
     }
 }
 
-/// Shares of the highest bit of `u - v` modulo 2^32, 0 or 1: it is 1 where `u` is below `v`, if both are below 2^31.
+/// Ring shares of bit 31 of `u - v` modulo 2^32: of 1 if `u` is below `v`, else of 0, for words that differ by less
+/// than 2^31. Specification: Below.
 ///
 /// Draws 18 words of miner 1's tape and 12 of each other miner's.
 /// Sends 22 words to miner 1 and 28 to each other miner.
 ///
 /// # Errors
-/// `TapeSpent` where a tape has fewer words left at `place`, `ListFull` where a list has less room. Then nothing is
+/// `TapeSpent` if a tape has too few words left at `place`, `ListFull` if a list has too little room; then nothing is
 /// drawn or written.
 #[inline(always)]
 pub fn below(

@@ -1,4 +1,4 @@
-//! Bit: one position of a bit word as a ring value.
+//! Bit: one position of a bit word as a ring value; Specification: Bit
 ghost use Rattle.std.specs.Prelude.{◌≡◌, ◌≤◌, [], length};
 ghost use Rattle.protocols.specs.Word.{modulus, bit_at, low_bit};
 ghost use Rattle.protocols.specs.Protocol.{perform};
@@ -14,7 +14,7 @@ use super::place::{Party, Place};
 use super::shares::Shares;
 use super::{list, ring};
 
-// The bit at a position; above the word every bit is 0.
+// The bit at a position; 0 from position 32 on.
 fn bit_at(x: u32, j: u32) -> u32
     ensures { result ≡ bit_at x j }
 {
@@ -31,14 +31,14 @@ fn bits_at(u: Shares, j: u32) -> Shares
     u.map(|x| bit_at(x, j))
 }
 
-// The lowest bit, which of a drawn word is a random bit.
+// The random bit of a drawn word; Specification: Draws.
 fn low_bit(x: u32) -> u32
     ensures { result ≡ low_bit x }
 {
     x & 1
 }
 
-// The new shares, by the bit s that miners 2 and 3 learn, from the words x and y that miner 1 dealt them.
+// The new shares, from the bit s that miners 2 and 3 learn and the words x, y that miner 1 sends them.
 fn chosen_shares(s: u32, x: u32, y: u32) -> Shares
     ensures { result ≡ spec.chosen_shares (modulus 5) s x y }
 {
@@ -49,8 +49,8 @@ fn chosen_shares(s: u32, x: u32, y: u32) -> Shares
     }
 }
 
-// Bit on the three words drawn of miner 1's tape. It is lent the lists of miners 2 and 3 one by one, since Equal and
-// Below lend it the tails of theirs.
+// Bit on the three words drawn of miner 1's tape. The lists of miners 2 and 3 are lent one by one, since Equal and
+// Below lend the tails of theirs.
 #[tactic(auto, unfolding(crate::specs::Bit::bit))]
 #[inline(always)]
 pub(crate) fn convert(
@@ -79,13 +79,13 @@ pub(crate) fn convert(
     chosen_shares(s23 ^ s32, m12, m13)
 }
 
-/// Shares by sum of bit `j` of the word of which `u` are shares by exclusive or; of 0 where `j` is 32 or more.
+/// Ring shares of bit `j` of the word of which `u` are bit shares; of 0 if `j` is 32 or more. Specification: Bit.
 ///
 /// Draws 3 words of miner 1's tape.
 /// Sends 3 words to each of miners 2 and 3.
 ///
 /// # Errors
-/// `TapeSpent` where a tape has fewer words left at `place`, `ListFull` where a list has less room. Then nothing is
+/// `TapeSpent` if a tape has too few words left at `place`, `ListFull` if a list has too little room; then nothing is
 /// drawn or written.
 #[tactic(auto, using(crate::proofs::Laws::Lent::bit_performs), unfolding(crate::specs::Bit::bit))]
 #[inline(always)]

@@ -1,4 +1,4 @@
-//! Bits: a ring value as a bit word.
+//! Bits: a ring value as a bit word; Specification: Bits
 ghost use Rattle.std.specs.Prelude.{◌≡◌, ◌+◌, ◌*◌, [], bit_and};
 ghost use Rattle.protocols.specs.Word.{modulus, width};
 ghost use Rattle.protocols.specs.Shares.{at, each};
@@ -20,35 +20,35 @@ use super::place::Place;
 use super::shares::Shares;
 use super::{list, masked, ring};
 
-/// What the dealing gives miners 2 and 3, each its own: a masked share, and a share of the mask r.
+/// What miners 2 and 3 have after the dealing, each its own: a masked share, and a bit share of the random word r.
 #[derive(Clone, Copy)]
 pub struct Dealing {
     /// Miner 2's masked share, which it sends to miner 3.
     pub v2: u32,
     /// Miner 3's masked share, which it sends to miner 2.
     pub v3: u32,
-    /// Miner 2's share of the mask r, by exclusive or.
+    /// Miner 2's bit share of r.
     pub bar2: u32,
-    /// Miner 3's share of the mask r, by exclusive or.
+    /// Miner 3's bit share of r.
     pub bar3: u32,
 }
 
-/// What the miners hold before a round.
+/// What the miners hold before a carry round.
 #[derive(Clone, Copy)]
 pub struct CarryState {
-    /// Shares of the positions through which a carry passes.
+    /// Bit shares of the positions that pass a carry on.
     pub p: Shares,
-    /// Shares of the positions at which a carry arises.
+    /// Bit shares of the positions at which a carry arises.
     pub s: Shares,
     /// The masks of `p` in this round.
     pub q: Shares,
     /// The masks of `s` in this round.
     pub t: Shares,
-    /// `p` as it was before the first round, which the result takes up again.
+    /// `p` as it was before the first round, for the result.
     pub base: Shares,
 }
 
-// For each round the positions that others take from.
+// The sources of each round.
 static SOURCES: [u32; 5] = [
     0x5555_5555,
     0x2222_2222,
@@ -66,7 +66,7 @@ static CLEAR: [u32; 5] = [
     0x0000_ffff,
 ];
 
-// Each source's bit at every position that takes from it in round k.
+// Round k: the bit of each source, at every position that has this source.
 fn spread(round: Round, x: u32) -> u32
     ensures { result ≡ word.spread 5 round.k x }
 {
@@ -74,28 +74,28 @@ fn spread(round: Round, x: u32) -> u32
     ((t << (1u32 << round.k)) - t) << 1
 }
 
-// A word where bit k of the position is clear, and 0 elsewhere.
+// Round k: a word at the positions whose bit k is clear, 0 elsewhere.
 fn clear(round: Round, x: u32) -> u32
     ensures { result ≡ bit_and x (word.clear 5 round.k) }
 {
     x & CLEAR[round.k as usize]
 }
 
-// Of each miner's word every source's bit, at the positions that take from it in round k.
+// The same of each miner's word.
 fn spread_each(round: Round, x: Shares) -> Shares
     ensures { result ≡ each (λ i. word.spread 5 round.k (at i x)) }
 {
     x.map(|x| spread(round, x))
 }
 
-// Each miner's word where bit k of the position is clear, and 0 elsewhere.
+// The same of each miner's word.
 fn clear_each(round: Round, x: Shares) -> Shares
     ensures { result ≡ each (λ i. bit_and (at i x) (word.clear 5 round.k)) }
 {
     x.map(|x| clear(round, x))
 }
 
-// Round k on every miner's masked shares, with the masks of the next round.
+// Round k of every miner on masked shares, with the masks of the next round; Specification: Carry rounds.
 fn carry_round(round: Round, p: Shares, s: Shares, q: Shares, t: Shares, base: Shares) -> CarryState
     ensures { result ≡ spec.carry_round (width 5) round.k p s q t base }
 {
@@ -126,7 +126,7 @@ fn first_state(dealing: Dealing, q: Shares, t: Shares) -> CarryState
     }
 }
 
-// The result: s shifted up by one, with p as it was before the rounds.
+// The result: s shifted up by one bit, xor p as it was before the rounds.
 #[tactic(auto, unfolding(crate::specs::Word::shift_up))]
 fn sum_bits(h: CarryState) -> Shares
     ensures { result ≡ spec.sum_bits (width 5) h }
@@ -134,7 +134,7 @@ fn sum_bits(h: CarryState) -> Shares
     h.s.zip(h.base, |s, base| (s << 1) ^ base)
 }
 
-// The dealing and the exchange, with the masks of the first round sent on.
+// The dealing and the exchange, with the first round's masks.
 #[tactic(auto, unfolding(crate::specs::Bits::deal))]
 fn deal(
     u: Shares,
@@ -166,7 +166,7 @@ fn deal(
     first_state(dealing, q, t)
 }
 
-// Round k: the masked shares and the masks of the next round sent on, and what the miners then hold.
+// Round k: sends the masked shares and the masks of the next round, and gives what the miners then hold.
 #[inline(always)]
 fn round(
     round: Round,
@@ -190,8 +190,8 @@ fn round(
     carry_round(round, p, s, q, t, held.base)
 }
 
-// Bits on the words drawn: three of miner 1, then the masks q and t of each miner for the exchange and for each round.
-// The rounds are written out, so that the entries of `SOURCES` and `CLEAR` and the places of the words are constants.
+// Bits on the drawn words: three of miner 1, then the masks q, t of each miner for the exchange and for each round.
+// The rounds are written out, so that the entries of `SOURCES` and `CLEAR` and the indices of the words are constants.
 #[inline(always)]
 pub(crate) fn rounds(
     u: Shares,
@@ -222,7 +222,7 @@ pub(crate) fn rounds(
     sum_bits(held)
 }
 
-// Bits, as a protocol of fixed lengths. `compute` is a call of its own: it is too long to stand in the run of commands.
+// Bits, as a protocol of fixed lengths. `compute` is not inlined: it is too long for the loop over the commands.
 #[derive(Clone, Copy)]
 struct Decomposition {
     u: Shares,
@@ -262,13 +262,13 @@ impl FixedLengths<15, 12, 22, 25> for Decomposition {
     }
 }
 
-/// Shares by exclusive or of the word of which `u` are shares by sum.
+/// Bit shares of the word of which `u` are ring shares. Specification: Bits.
 ///
 /// Draws 15 words of miner 1's tape and 12 of each other miner's.
 /// Sends 22 words to miner 1 and 25 to each other miner.
 ///
 /// # Errors
-/// `TapeSpent` where a tape has fewer words left at `place`, `ListFull` where a list has less room. Then nothing is
+/// `TapeSpent` if a tape has too few words left at `place`, `ListFull` if a list has too little room; then nothing is
 /// drawn or written.
 #[inline(always)]
 pub fn bits(u: Shares, place: Place, tapes: &Tapes, lists: &mut Lists) -> Result<Done, Shortage>

@@ -1,4 +1,4 @@
-//! Draws by every miner at once.
+//! Draws from every miner's tape at once; Specification: Draws
 ghost use Rattle.std.specs.Prelude.{◌≡◌};
 ghost use Rattle.protocols.specs.Place.{counts, draw_answer};
 ghost use Rattle.protocols.specs.Draws.{draw_each, draw_pairs, draw_block};
@@ -10,7 +10,7 @@ use super::shares::Shares;
 
 impl Place {
     /// The next `ONE` words of miner 1's tape and the next `OTHERS` of each other miner's, with the moved place; `None`
-    /// where a tape has fewer words left.
+    /// if a tape has fewer left.
     #[tactic(auto, using(crate::proofs::Laws::Draws::block_in_turn))]
     #[inline(always)]
     pub fn draw_block<'a, const ONE: usize, const OTHERS: usize>(
@@ -37,7 +37,7 @@ impl Place {
         Some(((one, two, three), place3))
     }
 
-    /// The next word of each miner's tape, with the moved place; `None` where a tape has none left.
+    /// The next word of each miner's tape, with the moved place; `None` if a tape has none left.
     #[tactic(auto, using(crate::proofs::Laws::Draws::each_of_block))]
     #[inline(always)]
     pub fn draw_each(self, tapes: &Tapes) -> Option<(Shares, Place)>
@@ -49,8 +49,8 @@ impl Place {
         Some((Shares { one, two, three }, next))
     }
 
-    /// The next two words of each miner's tape, the first ones and the second ones, with the moved place; `None` where
-    /// a tape has fewer words left.
+    /// The next two words of each miner's tape, the first ones and the second ones, with the moved place; `None` if a
+    /// tape has fewer left.
     #[tactic(auto, using(crate::proofs::Laws::Draws::pairs_of_block))]
     #[inline(always)]
     pub fn draw_pairs(self, tapes: &Tapes) -> Option<((Shares, Shares), Place)>

@@ -1,4 +1,4 @@
-//! Equal: 1 if two ring values are equal, else 0.
+//! Equal: 1 if two ring values are equal, else 0; Specification: Equal
 ghost use Rattle.std.specs.Prelude.{◌≡◌, ◌+◌, ◌*◌, ◌/◌, ◌^◌, [], bit_and};
 ghost use Rattle.protocols.specs.Word.{modulus, width};
 ghost use Rattle.protocols.specs.Shares.{at, each, Operands, operands};
@@ -20,16 +20,16 @@ use super::place::Place;
 use super::shares::Shares;
 use super::{bit, list, local, masked, ring};
 
-/// What the miners hold before a round.
+/// What the miners hold before a fold round.
 #[derive(Clone, Copy)]
 pub struct FoldState {
-    /// Shares of the word that is folded.
+    /// Bit shares of the word that is folded.
     pub p: Shares,
     /// The masks of `p` in this round.
     pub q: Shares,
 }
 
-// For each round the positions that take the 'and'.
+// The heads of each round: the positions that become an 'and'.
 static HEADS: [u32; 5] = [
     0x5555_5555,
     0x1111_1111,
@@ -38,7 +38,7 @@ static HEADS: [u32; 5] = [
     0x0000_0001,
 ];
 
-// The other positions.
+// All other positions.
 static OTHERS: [u32; 5] = [
     0xaaaa_aaaa,
     0xeeee_eeee,
@@ -47,7 +47,7 @@ static OTHERS: [u32; 5] = [
     0xffff_fffe,
 ];
 
-// The bits that the heads take the 'and' with, each moved down to its head; 0 at the other positions.
+// Round k: the bits with which the heads are combined, each moved down to its head; 0 at the other positions.
 fn to_heads(round: Round, x: u32) -> u32
     ensures { result ≡ bit_and (x / 2 ^ (2 ^ round.k)) (word.heads 5 round.k) }
 {
@@ -55,28 +55,28 @@ fn to_heads(round: Round, x: u32) -> u32
     (x >> stride) & HEADS[round.k as usize]
 }
 
-// A word's bits at the other positions; 0 at the heads.
+// Round k: a word at the positions that are no heads; 0 at the heads.
 fn others(round: Round, x: u32) -> u32
     ensures { result ≡ bit_and x (word.others 5 round.k) }
 {
     x & OTHERS[round.k as usize]
 }
 
-// Of each miner's word the bits that the heads take the 'and' with, each moved down to its head.
+// The same of each miner's word.
 fn to_heads_each(round: Round, x: Shares) -> Shares
     ensures { result ≡ each (λ i. bit_and (at i x / 2 ^ (2 ^ round.k)) (word.heads 5 round.k)) }
 {
     x.map(|x| to_heads(round, x))
 }
 
-// Each miner's word at the positions that are no heads; 0 at the heads.
+// The same of each miner's word.
 fn others_each(round: Round, x: Shares) -> Shares
     ensures { result ≡ each (λ i. bit_and (at i x) (word.others 5 round.k)) }
 {
     x.map(|x| others(round, x))
 }
 
-// Round k on every miner's masked shares, with the masks of the next round.
+// Round k of every miner on masked shares, with the masks of the next round; Specification: Fold rounds.
 fn fold_round(round: Round, p: Shares, q: Shares) -> FoldState
     ensures { result ≡ spec.fold_round (width 5) round.k p q }
 {
@@ -87,7 +87,7 @@ fn fold_round(round: Round, p: Shares, q: Shares) -> FoldState
     }
 }
 
-// Shares of p, from the shares d of u - v: they give all ones exactly where d gives 0.
+// Bit shares of p, from ring shares d of u - v: p is all ones exactly if d is 0.
 fn first_shares(d: Shares, r2: u32, r3: u32) -> Shares
     ensures { result ≡ spec.first_shares (modulus 5) d r2 r3 }
 {
@@ -98,7 +98,7 @@ fn first_shares(d: Shares, r2: u32, r3: u32) -> Shares
     ])
 }
 
-// The comparison of d, the difference of the operands, with 0, with the masks of the first round sent on.
+// The comparison of d, the difference of the operands, with 0, with the first round's masks.
 #[tactic(auto, unfolding(crate::specs::Equal::compare))]
 fn compare(
     d: Shares,
@@ -126,7 +126,7 @@ fn compare(
     }
 }
 
-// Round k: the masked shares and the masks of the next round sent on, and what the miners then hold.
+// Round k: sends the masked shares and the masks of the next round, and gives what the miners then hold.
 fn round(
     round: Round,
     held: FoldState,
@@ -147,8 +147,8 @@ fn round(
     fold_round(round, p, q)
 }
 
-// The word that is all ones where d is 0, folded to its lowest bit, on the words drawn: one of miner 1, then a mask of
-// each miner for the comparison and for each fold.
+// The comparison and the fold rounds on the drawn words: one of miner 1, then a mask of each miner for the comparison
+// and for each round.
 #[inline(always)]
 fn folds(d: Shares, words: Tapes, one: &mut [u32], two: &mut [u32], three: &mut [u32]) -> Shares
     requires block { Block 7 6 6 (tapes_of words) }
@@ -168,7 +168,7 @@ fn folds(d: Shares, words: Tapes, one: &mut [u32], two: &mut [u32], three: &mut 
     held.p
 }
 
-// Equal, as a protocol of fixed lengths, on the difference of the operands alone: that is half as many words.
+// Equal, as a protocol of fixed lengths; it computes on the difference of the operands, which is half as many words.
 #[derive(Clone, Copy)]
 struct ZeroTest {
     u: Shares,
@@ -211,13 +211,13 @@ impl FixedLengths<10, 6, 11, 15> for ZeroTest {
     }
 }
 
-/// Shares of 1 if `u` and `v` are shares of the same word, else of 0.
+/// Ring shares of 1 if `u` and `v` are ring shares of the same word, else of 0. Specification: Equal.
 ///
 /// Draws 10 words of miner 1's tape and 6 of each other miner's.
 /// Sends 11 words to miner 1 and 15 to each other miner.
 ///
 /// # Errors
-/// `TapeSpent` where a tape has fewer words left at `place`, `ListFull` where a list has less room. Then nothing is
+/// `TapeSpent` if a tape has too few words left at `place`, `ListFull` if a list has too little room; then nothing is
 /// drawn or written.
 #[inline(always)]
 pub fn equal(

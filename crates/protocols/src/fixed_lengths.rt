@@ -1,4 +1,4 @@
-//! What Bits, Equal and Below have in common: how many words they draw and send is fixed, so they compute on arrays.
+//! The frame of Bits, Equal and Below: how many words they draw and send is fixed, so they compute on arrays.
 ghost use Rattle.std.specs.Prelude.{◌≡◌, ◌<◌, ◌^◌, [], length};
 ghost use Rattle.protocols.specs.declared.shares.Shares as value;
 ghost use Rattle.protocols.specs.Place as spec;
@@ -30,7 +30,7 @@ pub(crate) trait FixedLengths<const D1: usize, const D: usize, const R1: usize, 
     fn input(&self) -> Shares
         ensures { result ≡ input_of (operands self.now) };
 
-    // The new shares, on the input and on the words drawn. What is received is written to arrays of its length.
+    // The new shares, from the input and the drawn words. The received words are written to arrays of their number.
     fn compute(
         input: Shares,
         tape1: &[u32; D1],
@@ -45,8 +45,8 @@ pub(crate) trait FixedLengths<const D1: usize, const D: usize, const R1: usize, 
         ensures words { (x : Operands) → input ≡ input_of x
             → lists one.new two.new three.new [] ≡ protocol.received x (tapes [] tape1.now tape2.now tape3.now) };
 
-    // The protocol on lists that are lent one by one: of a list within a lent struct the check does not tell what it
-    // holds after a part of it was lent on.
+    // The protocol on lists that are lent one by one: the check does not find what a list within a lent struct holds
+    // after a part of it was lent.
     #[inline(always)]
     final fn deliver_by_list(
         &self,
@@ -71,7 +71,7 @@ pub(crate) trait FixedLengths<const D1: usize, const D: usize, const R1: usize, 
             return Err(Shortage::ListFull);
         }
         let input = self.input();
-        // Just so many words of each, which `have_room` has shown to be there.
+        // `have_room` has shown that each list has so many words.
         let (one, two, three) = (list::front(one), list::front(two), list::front(three));
         Ok(Done {
             shares: Self::compute(input, tape1, tape2, tape3, one, two, three),
@@ -79,7 +79,7 @@ pub(crate) trait FixedLengths<const D1: usize, const D: usize, const R1: usize, 
         })
     }
 
-    // The protocol on what is lent.
+    // The protocol on the lent tapes and lists.
     #[inline(always)]
     final fn deliver(
         &self,

@@ -1,4 +1,4 @@
-//! What is lent to a protocol: tapes and received lists.
+//! The tapes and received lists that are lent to a protocol; Specification: Lent lists
 ghost use Rattle.std.specs.Prelude.{◌≡◌, ◌+◌, ◌<◌, length};
 ghost use Rattle.protocols.specs.Counts.{received_counts};
 ghost use Rattle.protocols.specs.Outcome.{have_room, with_fronts};
@@ -8,8 +8,8 @@ ghost use Rattle.protocols.specs.Private.Lending.{words_at, HaveRoom, to_next_in
 use super::list;
 use super::shares::Shares;
 
-/// The random words of the provider and of each miner: four tapes, each of any length in words. A protocol draws from
-/// its place on.
+/// The random words of the provider and of each miner: four tapes of any length. A protocol draws the words after those
+/// that its place record counts.
 #[repr(C)]
 #[derive(Clone, Copy, Drop)]
 pub struct Tapes<'a> {
@@ -23,10 +23,9 @@ pub struct Tapes<'a> {
     pub three: &'a [u32],
 }
 
-/// The unfilled parts of four lists of received words, those of the miners and that of the controller, each of any
-/// length in words. A protocol writes each party's words to the front of its list.
-// That they stay the same lists, `SameLists`, is a clause of each function that is lent them: only by it does the check
-// tell what a list holds after a call.
+/// The received lists of the miners and of the controller, each from its first free entry on and of any length. A
+/// protocol writes each party's words to the front of its list.
+// Each function that is lent them ensures `SameLists`: only by that does the check find what a list holds after a call.
 #[repr(C)]
 #[derive(Drop)]
 pub struct Lists<'a> {
@@ -41,7 +40,7 @@ pub struct Lists<'a> {
 }
 
 impl Tapes<'_> {
-    // Word k of each miner's tape; of miner 1's, the word `ahead` further on.
+    // Word `k` of the tapes of miners 2 and 3, and word `ahead + k` of miner 1's.
     #[inline(always)]
     pub(crate) fn at(&self, ahead: usize, k: usize) -> Shares
         requires one { ahead + k < length self.now.one.now }
@@ -58,7 +57,7 @@ impl Tapes<'_> {
 }
 
 impl Lists<'_> {
-    /// The controller's list, to be read.
+    /// The controller's list, for reading.
     pub fn controller(&self) -> &[u32]
         ensures { result.now ≡ self.now.controller.now }
     {
@@ -74,7 +73,7 @@ impl Lists<'_> {
             & list::have_room(self.one, self.two, self.three, one, two, three)
     }
 
-    // Words of each miner to the next, in order, to the front of the lists.
+    // Sends words of each miner to the next miner, in order, to the front of the lists.
     #[inline(always)]
     pub(crate) fn pass(&mut self, words: &[Shares])
         requires { let n = length words.now in HaveRoom n n n (lists_of self.old) }

@@ -1,6 +1,6 @@
-//! Sharemind's ring and bit protocols for three miners, over lent tapes.
-//! Each public protocol answers the new shares and the moved place, and puts the words that each party receives into
-//! its lent list; or it says that a tape is spent or a list too short, and then nothing is drawn or written.
+//! Sharemind's ring and bit protocols for three miners, on lent tapes; docs/SPECIFICATION.md states what they compute.
+//! Each protocol answers the new shares and the moved place record, and writes the words that each party receives into
+//! its lent list; or it answers that a tape is spent or a list too short, and draws and writes nothing.
 #![tactic(auto)]
 
 pub mod below;

@@ -1,4 +1,4 @@
-//! Received words, put into lists that are lent one by one.
+//! Received words, written into lists that are lent one by one; Specification: Received words
 ghost use Rattle.std.specs.Prelude.{◌≡◌, ◌+◌, ◌≤◌, length, take, []};
 ghost use Rattle.std.specs.Borrow.{sem};
 ghost use Rattle.std.proofs.lemmas.List.Edits.{sets};
@@ -9,8 +9,8 @@ ghost use Rattle.protocols.specs.Private.Lending.{HaveRoom, LendsFront, to_next_
 
 use super::shares::Shares;
 
-// Puts words at a place of a list. It goes word by word, since `copy_from_slice` compiles to a test of whether the two
-// overlap.
+// Writes words into a list from index `at` on. It goes word by word, since `copy_from_slice` compiles to a test of
+// whether the two overlap.
 #[inline(always)]
 pub(crate) fn put(list: &mut [u32], at: usize, words: &[u32])
     requires { at + length words.now ≤ length list.old }
@@ -21,7 +21,7 @@ pub(crate) fn put(list: &mut [u32], at: usize, words: &[u32])
     }
 }
 
-// The first N words of a list, to be written.
+// The first N words of a list, for writing.
 #[inline(always)]
 pub(crate) fn front<const N: usize>(list: &mut [u32]) -> &mut [u32; N]
     requires { N ≤ length list.old }
@@ -34,7 +34,7 @@ pub(crate) fn front<const N: usize>(list: &mut [u32]) -> &mut [u32; N]
     words
 }
 
-// Whether the miners' lists, lent one by one, have room for so many words.
+// Whether the miners' lists have room for so many words.
 #[inline(always)]
 pub(crate) fn have_room(
     list1: &[u32],
@@ -49,7 +49,7 @@ pub(crate) fn have_room(
     (one <= list1.len()) & ((two <= list2.len()) & (three <= list3.len()))
 }
 
-// Words of each miner to the next, in order: into list 1 from `first` on, into lists 2 and 3 from `at` on.
+// Sends words of each miner to the next miner, in order: into list 1 from `first` on, into lists 2 and 3 from `at` on.
 #[inline(always)]
 pub(crate) fn pass(
     list1: &mut [u32],

@@ -1,4 +1,4 @@
-//! What each miner does on its own shares alone. No word is drawn or sent.
+//! Local commands: each miner on its own share, without words drawn or sent; Specification: Local commands
 ghost use Rattle.std.specs.Prelude.{◌≡◌};
 ghost use Rattle.protocols.specs.Word.{modulus};
 ghost use Rattle.protocols.specs.Shares.{operands};
@@ -7,21 +7,21 @@ ghost use Rattle.protocols.specs.Local as local;
 use super::ring;
 use super::shares::Shares;
 
-/// Shares of `u + v` modulo 2^32.
+/// Ring shares of `u + v` modulo 2^32.
 pub fn sum(u: Shares, v: Shares) -> Shares
     ensures { result ≡ local.sum (modulus 5) (operands u v) }
 {
     u.zip(v, ring::add)
 }
 
-/// Shares of `u - v` modulo 2^32.
+/// Ring shares of `u - v` modulo 2^32.
 pub fn difference(u: Shares, v: Shares) -> Shares
     ensures { result ≡ local.difference (modulus 5) (operands u v) }
 {
     u.zip(v, ring::sub)
 }
 
-/// Shares of `u + c` modulo 2^32. Miner 1's share alone changes.
+/// Ring shares of `u + c` modulo 2^32; only miner 1's share changes.
 pub fn constant_sum(u: Shares, c: u32) -> Shares
     ensures { result ≡ local.constant_sum (modulus 5) c u }
 {
@@ -31,7 +31,7 @@ pub fn constant_sum(u: Shares, c: u32) -> Shares
     }
 }
 
-/// Shares of `u` times `c` modulo 2^32.
+/// Ring shares of `u` times `c` modulo 2^32.
 pub fn constant_multiple(u: Shares, c: u32) -> Shares
     ensures { result ≡ local.constant_multiple (modulus 5) c u }
 {

@@ -1,17 +1,17 @@
-//! What the rounds of Bits and Equal share: masks by exclusive or, and a shared 'and'.
+//! Masks by exclusive or and the shared 'and', for the rounds of Bits and Equal; Specification: Shared and
 ghost use Rattle.std.specs.Prelude.{◌≡◌, ◌<◌, bit_xor};
 ghost use Rattle.protocols.specs.Masked as spec;
 
 use super::shares::Shares;
 
-// A round's number: there are five.
+// The number of a round, 0 to 4.
 #[derive(Clone, Copy)]
 pub(crate) struct Round {
     pub(crate) k: u32,
     ghost below: { k < 5 },
 }
 
-// Exclusive or.
+// Exclusive or, to be passed to `zip`.
 pub(crate) fn xor(a: u32, b: u32) -> u32
     ensures { result ≡ bit_xor a b }
 {
@@ -25,14 +25,15 @@ pub fn masked_shares(p: Shares, q: Shares) -> Shares
     p.zip(q, xor).zip(q.previous(), xor)
 }
 
-/// A miner's share of the 'and' of two bit words, from its own shares `a`, `b` and the previous miner's `x`, `y`.
+/// A miner's share of an 'and', from its own shares `a`, `b` and the previous miner's `x`, `y`.
+/// Specification: Shared and.
 pub fn and_share(a: u32, x: u32, b: u32, y: u32) -> u32
     ensures { result ≡ spec.and_share a x b y }
 {
     (a & b) ^ (a & y) ^ (x & b)
 }
 
-/// Shares of the 'and' of the bit words of which `a` and `b` are shares by exclusive or.
+/// Bit shares of the 'and' of the words of which `a` and `b` are bit shares.
 pub fn and_shares(a: Shares, b: Shares) -> Shares
     ensures { result ≡ spec.and_shares a b }
 {

@@ -1,4 +1,4 @@
-//! Multiply: the product of two ring values.
+//! Multiply: the product of two ring values; Specification: Multiply
 ghost use Rattle.std.specs.Prelude.{◌≡◌};
 ghost use Rattle.protocols.specs.Word.{modulus};
 ghost use Rattle.protocols.specs.Shares.{operands};
@@ -20,20 +20,20 @@ fn product_share(u: u32, v: u32, x: u32, y: u32) -> u32
     ring::add(ring::add(ring::mul(u, v), ring::mul(u, y)), ring::mul(x, v))
 }
 
-// Shares of the product, from masked shares of both operands.
+// Shares of the product, from the masked shares of both operands.
 fn product(u: Shares, v: Shares) -> Shares
     ensures { result ≡ spec.product (modulus 5) u v }
 {
     u.zip_previous(v, product_share)
 }
 
-/// Shares of the product of `u` and `v` modulo 2^32.
+/// Ring shares of the product of `u` and `v` modulo 2^32. Specification: Multiply.
 ///
 /// Draws 2 words of each miner's tape.
 /// Sends 4 words to each miner.
 ///
 /// # Errors
-/// `TapeSpent` where a tape has fewer words left at `place`, `ListFull` where a list has less room. Then nothing is
+/// `TapeSpent` if a tape has too few words left at `place`, `ListFull` if a list has too little room; then nothing is
 /// drawn or written.
 #[tactic(auto, using(crate::proofs::Laws::Lent::multiply_performs), unfolding(crate::specs::Multiply::multiply))]
 #[inline(always)]

@@ -1,4 +1,4 @@
-//! Open: fresh shares for the controller, and the word that they add up to.
+//! Open: fresh shares for the controller, and the word that they add up to; Specification: Open
 ghost use Rattle.std.specs.Prelude.{◌≡◌};
 ghost use Rattle.protocols.specs.Word.{modulus};
 ghost use Rattle.protocols.specs.Shares.{sum_of};
@@ -13,13 +13,13 @@ use super::place::Place;
 use super::shares::Shares;
 use super::{list, reshare, ring};
 
-/// Fresh shares of the value of `s`, as the controller receives them; whoever calls keeps `s`.
+/// Fresh ring shares of the value of `s`, as the controller receives them; the miners keep `s`. Specification: Open.
 ///
 /// Draws 1 word of each miner's tape.
 /// Sends 1 word to each miner, and the three shares, in the miners' order, to the controller.
 ///
 /// # Errors
-/// `TapeSpent` where a tape has fewer words left at `place`, `ListFull` where a list has less room. Then nothing is
+/// `TapeSpent` if a tape has too few words left at `place`, `ListFull` if a list has too little room; then nothing is
 /// drawn or written.
 #[tactic(auto, using(crate::proofs::Laws::Lent::opening_performs), unfolding(crate::specs::Open::opening))]
 #[inline(always)]
@@ -43,7 +43,7 @@ pub fn open(s: Shares, place: Place, tapes: &Tapes, lists: &mut Lists) -> Result
     })
 }
 
-/// The word that three shares add up to, modulo 2^32.
+/// The value of ring shares: their sum modulo 2^32. Specification: Shares.
 #[tactic(auto, unfolding(crate::specs::Shares::sum_of))]
 pub fn total(s: Shares) -> u32
     ensures { result ≡ sum_of (modulus 5) s }

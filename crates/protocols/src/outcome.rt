@@ -1,4 +1,4 @@
-//! What a protocol answers: new shares and the moved place, or a shortage.
+//! What a protocol answers: new shares and the moved place record, or a shortage.
 ghost use Rattle.std.specs.Prelude.{◌≡◌, Some};
 ghost use Rattle.protocols.specs.Printed as printed;
 
@@ -7,26 +7,26 @@ use super::shares::Shares;
 use std::error::Error;
 use std::fmt;
 
-/// What a protocol leaves where it is done.
+/// What a protocol answers when it is done.
 #[derive(Clone, Copy, Debug, PartialEq, Eq)]
 pub struct Done {
     /// Each miner's share of the new value.
     pub shares: Shares,
-    /// The place record, with the words drawn counted.
+    /// The place record, moved on by the drawn words.
     pub place: Place,
 }
 
-/// Why a protocol is not done: then it has drawn, sent and written nothing.
+/// Why a protocol is not done; it has drawn, sent and written nothing then.
 #[derive(Clone, Copy, Debug, PartialEq, Eq)]
 pub enum Shortage {
-    /// A tape has fewer words left than the protocol draws from it.
+    /// Fewer words of a tape are left than the protocol draws: refusal 12.
     TapeSpent,
-    /// A received list has room for fewer words than its party is sent.
+    /// A received list has less room than its party's words need: refusal 13.
     ListFull,
 }
 
 impl Shortage {
-    /// What is lacking and what mends it, in a line: in lower case, without a full stop.
+    /// What is lacking and what mends it, in one line, in lower case, without a full stop. Specification: Sentences.
     pub fn sentence(self) -> &'static str
         ensures { result.now ≡ printed.shortage self }
     {

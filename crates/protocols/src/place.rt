@@ -1,4 +1,4 @@
-//! The place record, and draws from a tape.
+//! The place record and draws from a tape; Specification: Place record; Specification: Draws
 ghost use Rattle.std.specs.Prelude.{◌≡◌, ◌<◌, ◌↔◌, Some, IsNone, IfSome, length, take, drop};
 ghost use Rattle.protocols.specs.Place.{count, with_count, draw_answer, draw, place_of};
 ghost use Rattle.protocols.specs.Counts.{with_more};
@@ -7,10 +7,10 @@ ghost use Rattle.protocols.specs.Printed as printed;
 
 use std::fmt;
 
-/// Who has a tape: the provider and the miners. The controller draws nothing, so it is none of these.
+/// The parties that have a tape: the provider and the miners. The controller has none.
 #[derive(Clone, Copy, Debug, PartialEq, Eq)]
 pub enum Party {
-    /// Who shares the inputs out.
+    /// The provider, which shares the inputs out.
     Provider,
     /// Miner 1.
     One,
@@ -34,7 +34,7 @@ pub struct Drawn {
     pub three: usize,
 }
 
-/// How many words each list of received words holds.
+/// How many words each received list has.
 #[repr(C)]
 #[derive(Clone, Copy, Debug, Default, PartialEq, Eq)]
 pub struct Received {
@@ -48,13 +48,13 @@ pub struct Received {
     pub controller: usize,
 }
 
-/// The place record: how far each lent list is filled or used. All counts are 0 before the first command.
+/// The place record: how far the lent lists are used; Specification: Place record. `default` gives the empty one.
 #[repr(C)]
 #[derive(Clone, Copy, Debug, Default, PartialEq, Eq)]
 pub struct Place {
-    /// Filled handles, which are entries of each share table and of the kind list.
+    /// Filled handles.
     pub handles: usize,
-    /// Inputs used, in words.
+    /// Inputs used, of one word each.
     pub inputs: usize,
     /// Words drawn from each tape.
     pub drawn: Drawn,
@@ -75,7 +75,7 @@ impl Drawn {
         }
     }
 
-    // The same counts but for one tape's, which is set.
+    // The same counts, but `words` for one party.
     fn with(mut self, party: Party, words: usize) -> Drawn
         ensures { result ≡ with_count party words self }
     {
@@ -89,8 +89,7 @@ impl Drawn {
     }
 }
 
-// The next N words of a tape of which so many are used, if it has them. Zero words are there at every place, even
-// beyond the tape.
+// The words of a tape after so many used ones, if there are N. Zero words can be taken anywhere, even past the end.
 #[inline(always)]
 fn next_words<const N: usize>(tape: &[u32], used: usize) -> Option<&[u32; N]>
     ensures spent { IsNone result ↔ (length (drop used tape.now) < N) }
@@ -106,9 +105,8 @@ fn next_words<const N: usize>(tape: &[u32], used: usize) -> Option<&[u32; N]>
 }
 
 impl Place {
-    /// Draws the next N words of a party's tape: they come with the place record that counts them. `None` where fewer
-    /// than N words are left.
-    // Every draw of a protocol is taken apart by `let .. else` and returns early where the tape is spent.
+    /// The next N words of a party's tape, with the place record that counts them; `None` if fewer are left.
+    /// Specification: Draws.
     #[tactic(auto, using(crate::proofs::Laws::Draws::draw_some, crate::proofs::Laws::Draws::draw_none))]
     #[inline(always)]
     pub fn draw<'a, const N: usize>(
@@ -126,8 +124,8 @@ impl Place {
         Some((words, Place { drawn, ..self }))
     }
 
-    /// The record with so many more handles, inputs and received words. Counts wrap at 2^64, which none reaches that is
-    /// within its list.
+    /// The record with so many more handles, inputs and received words. Counts wrap at 2^64, which no count reaches
+    /// that is within its list.
     #[inline(always)]
     pub fn with_more(self, handles: usize, inputs: usize, received: Received) -> Place
         ensures { result ≡ with_more handles inputs received self }
@@ -152,8 +150,7 @@ impl Place {
     }
 }
 
-/// From the ten counts: handles, inputs, words drawn from the tapes of the provider and miners 1 to 3, words received
-/// by miners 1 to 3 and the controller.
+/// From ten counts, in the order of the fields; Specification: Place record.
 impl From<[usize; 10]> for Place {
     ghost from_gives = { λ counts p. p ≡ place_of counts };
 
@@ -177,7 +174,7 @@ impl From<[usize; 10]> for Place {
     }
 }
 
-/// Writes the four counts, a space between two: the provider's, miner 1's, miner 2's, miner 3's.
+/// Writes the four counts in decimal, a space between two: provider, miner 1, miner 2, miner 3.
 impl fmt::Display for Drawn {
     ghost output = { λ n. Some (printed.drawn_text n) };
 
@@ -192,7 +189,7 @@ impl fmt::Display for Drawn {
     }
 }
 
-/// Writes the four counts, a space between two: miner 1's, miner 2's, miner 3's, the controller's.
+/// Writes the four counts in decimal, a space between two: miner 1, miner 2, miner 3, controller.
 impl fmt::Display for Received {
     ghost output = { λ n. Some (printed.received_text n) };
 
@@ -207,7 +204,7 @@ impl fmt::Display for Received {
     }
 }
 
-/// Writes the ten counts, a space between two, in the order in which a record is made from them.
+/// Writes the ten counts in decimal, in the order of the fields, a space between two.
 impl fmt::Display for Place {
     ghost output = { λ p. Some (printed.place_text p) };
 

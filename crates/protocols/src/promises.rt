@@ -1,6 +1,5 @@
-//! What this crate promises of the protocols as a whole.
-//! Each claim is the contract of a function that does nothing, so that it is proved wherever this crate is. The
-//! statements, part by part, are in specs/Claims.antt, specs/Apart.antt and specs/Worked.antt.
+//! What this crate promises of the protocols as a whole: each claim is the contract of a function that does nothing,
+//! and is proved wherever this crate is. The statements are in specs/Claims.antt, specs/Apart.antt, specs/Worked.antt.
 ghost use Rattle.std.specs.Prelude.{◌≡◌, ℕ, ◌<◌, cond, List};
 ghost use Rattle.protocols.specs.declared.place.Party.{Party};
 ghost use Rattle.protocols.specs.declared.place.Party.TheVariants.{Provider};
@@ -24,7 +23,7 @@ pub fn ring_combines()
     ensures { (m : ℕ) → 0 < m → RingCombines m }
 {}
 
-/// Whatever is drawn, the new shares of Bit, Bits, Equal and Below give the right word.
+/// Whatever is drawn, the new shares of Bit, Bits, Equal and Below have the right value.
 pub fn bits_combine()
     ensures { (n : ℕ) → BitsCombine n }
 {}
@@ -39,8 +38,8 @@ pub fn rows_at_32()
     ensures { RowsAt32 }
 {}
 
-/// To a miner, to the controller and to a miner that is controller too, no protocol tells more of its operands than it
-/// may.
+/// No protocol shows a miner, the controller, or a miner that is the controller too, more of its operands than it may
+/// know.
 pub fn blind_protocols()
     ensures { (n : ℕ) (o : Observer) → BlindProtocols n o }
 {}
@@ -50,18 +49,17 @@ pub fn word_forms()
     ensures { (n k : ℕ) → k < n → WordForms n k }
 {}
 
-/// A position of a carry round takes from the highest lower position that has its block's carry.
+/// In carry round k a position takes from the highest position below it that has bit k clear and the same higher bits.
 pub fn source_is()
     ensures { (k j : ℕ) → bit_at j k ≡ 1 → SourceIs k j }
 {}
 
-/// A draw is 0, the words and the moved place, or 12 and the place as it was, where the tape has too few words left.
+/// A draw is 0, the words and the moved place; or 12 and the place as it was, if too few words are left.
 pub fn draw_is()
     ensures { (k : ℕ) (i : Party) (l : List ℕ) (p : Place) → DrawIs k i l p }
 {}
 
-/// A protocol is spent exactly where a tape has too few words left; of an input, of a value's shares and of two values'
-/// shares.
+/// A protocol is spent exactly if a tape has too few words left, for protocols on an input, on one value and on two.
 pub fn on_tapes()
     ensures of_input { (f : Protocol ℕ Shares) (s : ℕ) (p : Place) (t : Tapes) → OnTapes f s p t }
     ensures of_shares { (f : Protocol Shares Shares) (s : Shares) (p : Place) (t : Tapes) → OnTapes f s p t }
@@ -73,7 +71,7 @@ pub fn delivers()
     ensures { (p : Place) (l : Lists) (s : Shares) (w : Lists) (q : Place) → Delivers p l s w q }
 {}
 
-/// The words that each party receives, written out in the order in which they come.
+/// The words that each party receives, in order.
 pub fn transcripts()
     ensures { (m : ℕ) → Transcripts m }
 {}
@@ -83,15 +81,15 @@ pub fn protocols_apart()
     ensures { (n : ℕ) → ProtocolsApart n }
 {}
 
-/// What connected processes come to is settled by what each does by itself, on its received words; of processes that
+/// What four connected programs do is determined by what each does by itself, on its received words: for programs that
 /// end with a word, and with a table.
 pub fn by_itself()
     ensures of_words { (r : ℕ) (p : Party → Process r ℕ) → ByItself ℕ r p }
     ensures of_tables { (r : ℕ) (p : Party → Process r (List ℕ)) → ByItself (List ℕ) r p }
 {}
 
-/// What a miner has after a protocol that is played apart is settled by what it had, drew and received; of an input, of
-/// a value's shares and of two values' shares.
+/// After a protocol that is played apart, what a miner has is determined by what it had, drew and received, for
+/// protocols on an input, on one value and on two.
 pub fn same_protocol_view()
     ensures of_input { (f : Protocol ℕ Shares) → PlayedApart f input share → SameProtocolView f (λ i v v'. Unit {0}) }
     ensures of_shares { (f : Protocol Shares Shares) → PlayedApart f share share
@@ -100,8 +98,8 @@ pub fn same_protocol_view()
         → SameProtocolView f (λ i x x'. (at i x.u ≡ at i x'.u) × (at i x.v ≡ at i x'.v)) }
 {}
 
-/// Of a protocol that is played apart: where two runs deliver the same words, so does each run mixed of the two; of an
-/// input, of a value's shares and of two values' shares.
+/// If a protocol is played apart and two runs of it deliver the same words, so does each run mixed from the two, for
+/// protocols on an input, on one value and on two.
 pub fn mixed_protocol_runs()
     ensures of_input { (f : Protocol ℕ Shares) → PlayedApart f input share
         → MixedProtocolRuns f (λ first v v'. cond (first Provider) v v') }
@@ -110,12 +108,12 @@ pub fn mixed_protocol_runs()
         → MixedProtocolRuns f mixed_operands }
 {}
 
-/// A miner that has another's share with no word sent is not played apart.
+/// A protocol by which a miner has another's share, with no word sent, is not played apart.
 pub fn no_magic()
     ensures { NoMagic }
 {}
 
-/// The cases that were reckoned by hand.
+/// The worked cases of Specification: Worked computations.
 pub fn worked()
     ensures { Worked }
 {}

@@ -1,4 +1,4 @@
-//! Reshare: other shares of the same value.
+//! Reshare: fresh shares of the same value; Specification: Reshare
 ghost use Rattle.std.specs.Prelude.{◌≡◌};
 ghost use Rattle.protocols.specs.Word.{modulus};
 ghost use Rattle.protocols.specs.Protocol.{perform};
@@ -12,21 +12,20 @@ use super::place::Place;
 use super::ring;
 use super::shares::Shares;
 
-/// Fresh shares of the value of `s` modulo 2^32: each miner adds its own mask of `r` and takes off the previous
-/// miner's.
+/// Fresh ring shares of the value of `s`: each share plus its miner's own mask of `r`, minus the previous miner's.
 pub fn fresh_shares(s: Shares, r: Shares) -> Shares
     ensures { result ≡ spec.fresh_shares (modulus 5) s r }
 {
     s.zip(r, ring::add).zip(r.previous(), ring::sub)
 }
 
-/// Fresh shares of the value of `s`.
+/// Fresh ring shares of the value of `s`. Specification: Reshare.
 ///
 /// Draws 1 word of each miner's tape.
 /// Sends 1 word to each miner.
 ///
 /// # Errors
-/// `TapeSpent` where a tape has fewer words left at `place`, `ListFull` where a list has less room. Then nothing is
+/// `TapeSpent` if a tape has too few words left at `place`, `ListFull` if a list has too little room; then nothing is
 /// drawn or written.
 #[tactic(auto, using(crate::proofs::Laws::Lent::reshare_performs), unfolding(crate::specs::Reshare::reshare))]
 #[inline(always)]

@@ -1,4 +1,4 @@
-//! The ring: sums, differences and products modulo 2^32.
+//! The ring: sums, differences and products modulo 2^32; Specification: Words
 ghost use Rattle.std.specs.Prelude.{◌≡◌};
 ghost use Rattle.protocols.specs.Word as word;
 
@@ -19,7 +19,7 @@ pub fn sub(a: u32, b: u32) -> u32
 }
 
 /// The product modulo 2^32.
-// It is taken in 64 bits, which hold it whole, and the low half is kept.
+// It is computed in 64 bits, which hold it whole, and the low half is kept.
 #[tactic(auto, unfolding(crate::specs::Word::mul))]
 pub fn mul(a: u32, b: u32) -> u32
     ensures { result ≡ word.mul (word.modulus 5) a b }

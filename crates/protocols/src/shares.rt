@@ -1,11 +1,11 @@
-//! Three words, one for each miner.
+//! Three words, one with each miner; Specification: Shares
 ghost use Rattle.std.specs.Prelude.{◌≡◌, Some};
 ghost use Rattle.protocols.specs.Shares.{at, each, prev, shares_of};
 ghost use Rattle.protocols.specs.Printed as printed;
 
 use std::fmt;
 
-/// A word of each miner: its share of a value, or a word that it drew or was sent.
+/// A word of each miner: its share of a value, or a word that it drew or received.
 #[derive(Clone, Copy, Debug, Default, PartialEq, Eq)]
 pub struct Shares {
     /// Miner 1's word.
@@ -17,7 +17,7 @@ pub struct Shares {
 }
 
 impl Shares {
-    // What the function makes of each miner's word.
+    // `f` of each miner's word.
     #[inline(always)]
     pub(crate) fn map<F: Fn(u32) -> u32>(self, f: F) -> Shares
         requires { F.IsAlwaysCallable f }
@@ -32,7 +32,7 @@ impl Shares {
         }
     }
 
-    // What the function makes of each miner's two words.
+    // `f` of each miner's two words.
     #[inline(always)]
     pub(crate) fn zip<F: Fn(u32, u32) -> u32>(self, other: Shares, f: F) -> Shares
         requires { F.IsAlwaysCallable f }
@@ -47,7 +47,7 @@ impl Shares {
         }
     }
 
-    // What the function makes of each miner's two words and the previous miner's two.
+    // `f` of each miner's two words and the previous miner's two.
     #[inline(always)]
     pub(crate) fn zip_previous<F: Fn(u32, u32, u32, u32) -> u32>(
         self,
@@ -66,7 +66,7 @@ impl Shares {
         }
     }
 
-    // Each miner's word is the previous miner's: before miner 1 comes miner 3.
+    // Gives each miner the previous miner's word; Specification: Parties.
     #[inline(always)]
     pub(crate) fn previous(self) -> Shares
         ensures { result ≡ each (λ i. at (prev i) self) }
@@ -79,7 +79,7 @@ impl Shares {
     }
 }
 
-/// From miner 1's word, miner 2's and miner 3's.
+/// From the words of miners 1, 2 and 3.
 impl From<[u32; 3]> for Shares {
     ghost from_gives = { λ words s. s ≡ shares_of words };
 

@@ -1,4 +1,4 @@
-//! Store: an input, shared out by the provider.
+//! Store: the provider splits an input into shares; Specification: Store
 ghost use Rattle.std.specs.Prelude.{◌≡◌};
 ghost use Rattle.protocols.specs.Word.{modulus};
 ghost use Rattle.protocols.specs.Protocol.{perform};
@@ -12,13 +12,13 @@ use super::place::{Party, Place};
 use super::ring;
 use super::shares::Shares;
 
-/// Shares of the input `v`, two of them drawn by the provider.
+/// Ring shares of the input `v`: the provider draws two of them. Specification: Store.
 ///
 /// Draws 2 words of the provider's tape.
 /// Sends its share to each miner.
 ///
 /// # Errors
-/// `TapeSpent` where a tape has fewer words left at `place`, `ListFull` where a list has less room. Then nothing is
+/// `TapeSpent` if a tape has too few words left at `place`, `ListFull` if a list has too little room; then nothing is
 /// drawn or written.
 #[tactic(auto, using(crate::proofs::Laws::Lent::store_performs), unfolding(crate::specs::Store::store))]
 #[inline(always)]

@@ -1,4 +1,4 @@
--- What a read puts behind the filled front of a buffer stands there, after what was read before.
+-- The bytes that a read puts behind the filled front of a buffer continue the bytes read before.
 use Rattle.std.specs.Prelude.{Option}
 use Rattle.std.proofs.Common.{ℕ, ◌+◌, ◌≡◌, ◌≤◌, List, ◌++◌, length, take, ap, ◌∙◌, length-take-le}
 use Rattle.std.proofs.Math.Seq.{take-append-add}

@@ -1,4 +1,4 @@
-//! An input, read whole into a lent buffer.
+//! Reads an input whole into a lent buffer.
 #![tactic(auto)]
 
 ghost use Rattle.std.specs.Prelude.{◌≡◌, ℕ, ◌<◌, [], IfOk, OnErr, Ok, length, take};
@@ -8,12 +8,12 @@ ghost use Rattle.std.specs.Io.KnownBytes.{Consumes, IsAtEnd};
 use std::io;
 use std::io::Read;
 
-/// Reads until the input ends or the buffer is full. The result is how many bytes stand at the buffer's start: all that
-/// there were, where the buffer is not full.
+/// Reads until the input ends or the buffer is full. The result is how many bytes were read to the front of the buffer;
+/// if the buffer is not full, they are the whole input.
 ///
 /// # Errors
-/// The error of a read that fails. The buffer then begins with the bytes that were read before it; what stands behind
-/// them is not known.
+/// The error of a read that fails. The bytes read before it are then at the front of the buffer; those behind them are
+/// unspecified.
 #[tactic(auto, using(crate::proofs::Filled::consumes_filled))]
 pub fn read_whole<R: Read>(from: &mut R, buffer: &mut [u8]) -> io::Result<usize>
     ensures counted { ReadsAtMost result buffer.new }
@@ -25,7 +25,7 @@ pub fn read_whole<R: Read>(from: &mut R, buffer: &mut [u8]) -> io::Result<usize>
     ensures no_room { buffer.old ≡ [] → result ≡ Ok 0 }
 {
     let mut done = 0;
-    // A `while`, since how much a read gives is known only after it.
+    // A `while`, since only a read itself shows how many bytes it gives.
     while done < buffer.len() {
         let more = from.read(&mut buffer[done..])?;
         if more == 0 {

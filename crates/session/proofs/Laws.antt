@@ -14,6 +14,7 @@ pub mod Text
 pub mod OpenLines
 pub mod RunLines
 pub mod Report
+pub mod Pool
 pub mod SessionRefusals
 pub mod SessionAgreement
 pub mod Apart

@@ -1,4 +1,4 @@
--- What this crate claims of sessions.
+-- What is claimed of every session, and of decimal numbers; Specification: Sessions.
 -- Each claim is promised by the function of src/promises.rt that its comment names.
 use Rattle.std.specs.Prelude.{ℕ, ◌/◌, ◌^◌, ◌≤◌, ◌<◌, ◌≡◌, ◌↔◌, List, [], ◌++◌, length, get_or, take, drop, replicate}
 use Rattle.protocols.specs.declared.place.Drawn.{Drawn}
@@ -18,89 +18,96 @@ use Rattle.session.specs.Session.{session_answer, SessionOutcome, session_outcom
 use Rattle.session.specs.Refusals.{AppliesToSession, LowestOfSession}
 use Rattle.session.specs.Text.{decimal, value_of, open_lines, open_lines_by_words}
 
--- the session of a file, with the words w and the state s lent
+-- the session of a file that is lent the words w and the lists s
 module _ (file w : List ℕ) (s : State) where
+  -- the sheet of the file
   abbrev pub sheet : Sheet
   sheet = sheet_of (words_of file)
 
-  -- what its commands are lent
+  -- the lists lent to its commands
   abbrev pub lent_at_start : Lent
   lent_at_start = lent_to_commands sheet s
 
+  -- its answer, and the lent words and lists after it
   abbrev pub its_outcome : SessionOutcome
   its_outcome = session file w s
 
+  -- 0 or the number of its refusal
   abbrev pub its_number : ℕ
   its_number = its_outcome.answer.number
 
-  -- none of the numbers 1 to 4 applies
+  -- it is taken: none of the refusals 1 to 4 applies
   abbrev pub IsTaken : Type 0
   IsTaken = (r : ℕ) → ¬ AppliesToSession file w s r
 
-  -- the first k commands, run past refusals
+  -- the run of its first k commands; Specification: Runs
   abbrev pub run_of_first : ℕ → RunResult
   run_of_first k = run 5 (take k sheet.commands) empty_place lent_at_start
 
-  -- what a session that is taken answers and leaves, after these commands done, with the number r: the lent words begin
-  -- with the file's, and the rest of them is untouched
+  -- the outcome after k commands done, with the number r: the file's words are at the front of the lent ones, and the
+  -- others stay
   abbrev pub outcome_after : ℕ → ℕ → SessionOutcome
   outcome_after k r =
       session_outcome (session_answer k (run_of_first k).place r) (words_of file ++ drop (length file / 4) w)
       (state_of (run_of_first k).lent)
 
-  -- ---- 1. The session is the run of its commands up to the first refusal.
+  -- ---- 1. A session that is taken runs its commands up to the first refusal; Specification: Sessions.
 
   pub data UpToRefusal : Type 0 where
     -- every command is accepted
     runs_to_end : answer_numbers (run_of_first (length sheet.commands)) ≡ replicate (length sheet.commands) 0
         → its_outcome ≡ outcome_after (length sheet.commands) 0 → UpToRefusal
-    -- command k, counted from 0, is the first refused one, with r, the lowest number that applies to it; what the
+    -- command k, counted from 0, is the first refused one, and r is the lowest number that applies to it; what the
     -- commands before it left remains
     stops_at : (k r : ℕ) → 5 ≤ r → k < length sheet.commands → answer_numbers (run_of_first k) ≡ replicate k 0
         → Lowest 5 (get_or sheet.commands k (command_of 0 0 0)) (run_of_first k).place (run_of_first k).lent r
         → its_outcome ≡ outcome_after k r → UpToRefusal
 
-  -- ---- 2. Refusals: which number turns a session down, and that it is otherwise the run of its commands.
+  -- ---- 2. Refusals: when a session is refused as a whole, and that it runs its commands otherwise.
 
-  -- promised by `session_refusals`: numbers 1 to 4 as the table of refusals says, and otherwise the run of the commands
-  -- up to the first refusal
+  -- promised by `session_refusals`: refusals 1 to 4 as the table says, and otherwise the run of the commands up to the
+  -- first refusal; Specification: Table of refusals
   pub record SessionRefusals : Type 0 where
-    -- numbers 1 to 4, of which the lowest that applies is answered; they do no command and change nothing
+    -- the lowest of the numbers 1 to 4 that applies is answered; Specification: Order of refusals
     pub refused : (r : ℕ) → 0 < r → r ≤ 4 → (its_number ≡ r) ↔ LowestOfSession file w s r
+    -- if one applies, no command is done, and no lent word or list changes
     pub unchanged : ¬ IsTaken → its_outcome ≡ session_outcome (session_answer 0 empty_place its_number) w s
-    -- otherwise it does its commands, in the run of the sheet, of which blindness speaks
+    -- otherwise the commands are run up to the first refusal
     pub taken : IsTaken → UpToRefusal
+    -- and this is the run of which blindness is claimed
     pub runs : IsTaken → its_outcome ≡ outcome_of_run (run_of sheet s) (words_after file w)
 
-  -- ---- 3. Agreement with the register machine, at each command done and at the end.
+  -- ---- 3. Agreement with the register machine; Specification: Registers.
 
-  -- promised by `session_agreement`: of a file of bytes that is taken, the shares combine to what the register machine
-  -- holds, and its words are printed
+  -- promised by `session_agreement`: if a file of bytes is taken, the shares combine to the words of the register
+  -- machine, and its opened words are printed
   pub record SessionAgreement : Type 0 where
+    -- at each command done
     pub throughout : Throughout 5 (take its_outcome.answer.done sheet.commands) empty_place lent_at_start
-    -- the register machine, started empty and run by itself on the commands done, holds what the shares left combine to
+    -- at the end, the register machine run by itself on the commands done holds what the shares combine to
     pub same_registers : starting_registers 5 its_outcome.answer.place (lent_to_commands sheet its_outcome.state)
         ≡ registers_after 5 (take its_outcome.answer.done sheet.commands) (sizes lent_at_start) sheet.inputs
         (registers [] empty_place)
-    -- the text's opened words are the register machine's
+    -- the words in the lines of opens are the register machine's; Specification: Opened words
     pub same_opened : open_lines sheet.commands (run_of sheet s).answers
         ≡ open_lines_by_words (take its_outcome.answer.done sheet.commands)
         (opened_registers_to_refusal 5 sheet.commands (sizes lent_at_start) sheet.inputs (registers [] empty_place))
 
--- ---- 4. Blindness: of two sheets with the same commands, and inputs x and y.
+-- ---- 4. Blindness of two sheets with the same commands, and the inputs x and y; Specification: Blindness.
 
+-- the sheet of these commands, inputs and tapes
 abbrev pub sheet_with : List Command → List ℕ → Tapes → Sheet
 sheet_with cs inputs t = record { commands = cs; inputs = inputs; tapes = t }
 
--- promised by `session_blindness`: every miner's record, and the controller's where both lead to the same opened words,
--- is blind to the inputs
+-- promised by `session_blindness`: every miner's record is blind to the inputs, and so is the controller's if both
+-- inputs give the same opened words
 abbrev pub SessionBlindness : List Command → State → Drawn → List ℕ → List ℕ → Type 0
 SessionBlindness cs s d x y = BlindRuns (2 ^ 32) d (λ i t. run_of (sheet_with cs i t) s)
     (λ i. opened_registers_to_refusal 5 cs (lengths s.tables s.kinds i d s.received) i (registers [] empty_place)) x y
 
--- ---- 5. Numbers are printed in decimal: digits only, no zero in front, and they spell the number.
+-- ---- 5. Numbers are printed in decimal; Specification: Lines.
 
--- promised by `decimal`: the digits of a number below 2 ^ 64 spell it, with no zero in front; 48 to 57 are 0 to 9
+-- promised by `decimal`: the digits of a number below 2 ^ 64 spell it, without leading zeros; 48 to 57 are 0 to 9
 pub record Decimal (n : ℕ) : Type 0 where
   pub are_digits : (i : ℕ) → i < length (decimal n)
       → (48 ≤ get_or (decimal n) i 0) × (get_or (decimal n) i 0 ≤ 57)

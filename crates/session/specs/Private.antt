@@ -1,4 +1,4 @@
--- What only contracts inside the crate speak of.
+-- Definitions for contracts inside the crate.
 pub mod Bodies
 pub mod Writing
 pub mod Report

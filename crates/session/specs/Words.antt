@@ -1,4 +1,4 @@
--- A file's words: four bytes each, the lowest first.
+-- A file's words: four bytes each, the lowest first; Specification: Sheet file.
 use Rattle.std.specs.Prelude.{ℕ, ◌+◌, ◌*◌, List, [], ◌∷◌}
 
 -- the word of four bytes, the lowest first

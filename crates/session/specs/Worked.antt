@@ -1,6 +1,6 @@
--- The worked session, one that stops, the empty one and a file of no word: what they answer, print and leave.
--- The numbers are those of a second writing of the machine, which shares nothing with this one:
--- tests/worked_session.py prints this file.
+-- The worked session, one that stops, the empty one and a file of no word: what they answer, print and leave;
+-- Specification: Worked sessions. tests/worked_session.py prints this file: its numbers come from a second writing of
+-- the machine, which shares no code with the engine.
 use Rattle.std.specs.Prelude.{◌≡◌, ℕ, ◌/◌, ◌%◌, ◌≤◌, List, [], ◌∷◌, ◌++◌, length, drop, replicate, codes}
 use Rattle.protocols.specs.Place.{lists, place_of}
 use Rattle.machine.specs.Lent.{tables}
@@ -10,12 +10,12 @@ use Rattle.session.specs.Text.{pool_outcome, pool}
 
 -- ---- the files
 
--- words as bytes, the lowest byte of each first
+-- words as bytes, the lowest byte of each first; Specification: Sheet file
 abbrev pub bytes : List ℕ → List ℕ
 bytes [] = []
 bytes (w ∷ l) = w % 256 ∷ w / 256 % 256 ∷ w / 65536 % 256 ∷ w / 16777216 ∷ bytes l
 
--- start and count of each body; four commands; two inputs; the tapes of the provider and of miners 1 to 3
+-- start and count of each body; four commands; two inputs; the tapes of the provider and miners 1, 2, 3
 abbrev pub worked_file : List ℕ
 worked_file =
     12 ∷ 12 ∷ 24 ∷ 2 ∷ 26 ∷ 4 ∷ 30 ∷ 3 ∷ 33 ∷ 3 ∷ 36 ∷ 3 ∷
@@ -39,12 +39,12 @@ abbrev pub empty_file : List ℕ
 empty_file =
     12 ∷ 0 ∷ 12 ∷ 0 ∷ 12 ∷ 0 ∷ 12 ∷ 0 ∷ 12 ∷ 0 ∷ 12 ∷ 0 ∷ []
 
--- ---- what the program lends, and what the first two leave in it
+-- ---- what the program lends, and what the first two sessions leave in it; Specification: Program
 
 abbrev pub zeros : ℕ → List ℕ
 zeros n = replicate n 0
 
--- share tables and kinds; the words received by miners 1 to 3 and the controller
+-- share tables and kind list; received lists
 abbrev pub state_before : State
 state_before =
     state (tables (zeros 128) (zeros 128) (zeros 128)) (zeros 128)
@@ -80,11 +80,12 @@ state_after_stop =
     (4 ∷ zeros 3583)
     (zeros 3584))
 
--- promised by `worked_session`: whatever words are lent, if they are 7692 or more, the bytes of these three files
--- lead to exactly these answers and texts, and leave exactly these shares, kinds and received words, every list whole;
--- the lent words then begin with the file's, and the rest of them is as it was. A file of no word is refused.
+-- promised by `worked_session`: whatever words are lent, if there are 7692 or more, the bytes of these three files
+-- give exactly these answers and texts, and leave exactly these shares, kinds and received words, every list whole, and
+-- the file's words in front of the lent ones, which else stay as they were. A file of no word is refused.
+-- Specification: Worked sessions; Sessions.
 pub record WorkedSession : Type 0 where
-  -- four commands are done; the ten counts of the place record
+  -- four commands are done
   pub worked_outcome : (w : List ℕ) → 7692 ≤ length w
       → session (bytes worked_file) w state_before
       ≡ session_outcome (session_answer 4 (place_of (3 ∷ 2 ∷ 4 ∷ 3 ∷ 3 ∷ 3 ∷ 7 ∷ 7 ∷ 7 ∷ 3 ∷ [])) 0)
@@ -92,7 +93,7 @@ pub record WorkedSession : Type 0 where
   pub worked_text : (w : List ℕ) → 7692 ≤ length w
       → pool (bytes worked_file) w state_before
       ≡ pool_outcome (codes "open 3 35\nend 4 7 7 7 3\n") (worked_file ++ drop 39 w) state_after
-  -- one command is done, and what it left stays; the next one is refused
+  -- one command is done, and what it wrote remains; the next one is refused
   pub stopped_outcome : (w : List ℕ) → 7692 ≤ length w
       → session (bytes stopped_file) w state_before
       ≡ session_outcome (session_answer 1 (place_of (1 ∷ 1 ∷ 2 ∷ 0 ∷ 0 ∷ 0 ∷ 1 ∷ 1 ∷ 1 ∷ 0 ∷ [])) 7)

@@ -1,19 +1,18 @@
-//! What a session answers: the commands done, the place record and a number.
+//! The answer of a session; Specification: Sessions.
 ghost use Rattle.std.specs.Prelude.{◌≡◌};
 
 use machine::refusal::Refusal;
 use protocols::place::Place;
 
-/// What a session answers, in the layout that C reads.
+/// The answer of a session, in C's layout; Specification: Sessions.
 #[repr(C)]
 #[derive(Clone, Copy, Debug, PartialEq, Eq)]
 pub struct SessionAnswer {
-    /// The commands done: all, or those before the first refused one.
+    /// How many commands were done: all, or those before the first refused one.
     pub done: usize,
-    /// The place record after them: handles filled, inputs used, and the words drawn from each tape and received by
-    /// each party.
+    /// The place record after these commands; Specification: Place record.
     pub place: Place,
-    /// 0 if every command was done, 1 to 4 if the session is turned down as a whole, 5 to 13 if a command is refused.
+    /// 0 if every command was done, 1 to 4 if the session was refused as a whole, 5 to 13 if a command was refused.
     pub number: u32,
 }
 
@@ -22,7 +21,7 @@ impl SessionAnswer {
     ghost use Rattle.machine.specs.Refusal.{refusal_number};
     ghost use Rattle.session.specs.Session.{session_answer};
 
-    // Of a session that is turned down as a whole.
+    // The answer of a session that is refused as a whole.
     pub(crate) fn of_refusal(refusal: Refusal) -> SessionAnswer
         ensures { result ≡ session_answer 0 empty_place (refusal_number refusal) }
     {

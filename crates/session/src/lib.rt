@@ -1,4 +1,4 @@
-//! The session layer: a file's contents, the run of its commands, and the text that `pool` prints.
+//! Sessions: the run of a file's commands, and the text that `pool` prints of it; Specification: Sessions.
 #![tactic(auto)]
 
 mod answer;
@@ -13,3 +13,6 @@ mod words;
 pub use answer::SessionAnswer;
 pub use report::{BYTES, TEXT, pool};
 pub use sheet::{WORDS, session};
+
+/// The version of this repository.
+pub const VERSION: &str = "0.1.0";

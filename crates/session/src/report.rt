@@ -1,4 +1,4 @@
-//! The session of a file as text: what the program `pool` does between reading and writing.
+//! The session of a file as text, which the program `pool` prints; Specification: Lines.
 ghost use Rattle.std.specs.Prelude.{◌≡◌, false, ◌≤◌, length, take, drop};
 ghost use Rattle.protocols.specs.Lent.{SameLists};
 ghost use Rattle.machine.specs.Lent.{SameTables};
@@ -15,14 +15,14 @@ use machine::lent::Tables;
 use machine::refusal::Refusal;
 use protocols::lent::Lists;
 
-/// The bytes of the longest legal file.
+/// The most bytes of a session file; Specification: Limits.
 pub const BYTES: usize = 30768;
 
-/// The bytes of the buffer for a text: the longest has 128 lines of at most 47 bytes and a last one of at most 109.
+/// Bytes of room for a session's text, which has at most 128 lines of 47 bytes and a last one of 109.
 pub const TEXT: usize = 8192;
 
-// Puts the text of a session's answer at the front of a buffer and answers its length. The commands done stand behind
-// the twelve words of the contents, and the controller has three shares for each open.
+// Writes the text of a session to the front of a buffer and answers its length, from the session's answer, the commands
+// done, which follow the twelve words of the contents, and the controller's three shares for each open.
 fn report(answer: SessionAnswer, words: &[u32], shares: &[u32], out: &mut [u8; TEXT]) -> usize
     requires { is_early answer.number ≡ false → IsReadable answer words.now shares.now }
     ensures { IsFront out.old (text_by_shares answer words.now shares.now) out.new result }
@@ -39,13 +39,15 @@ fn report(answer: SessionAnswer, words: &[u32], shares: &[u32], out: &mut [u8; T
     text.len()
 }
 
-/// Runs the session of a file, as `session` does, and puts what is to be printed of it at the front of `out`: a line
-/// `open H W` for each word that was opened, with its handle, and at last `end N A B C D`, with the commands done and
-/// the words that miners 1 to 3 and the controller received, or `refused R at K`, with the number and the command
-/// refused, counted from 0; of a session that is turned down as a whole `refused R` alone.
+/// Runs the session of a file, as `session` does, and writes its text to the front of `out`; Specification: Lines.
 ///
-/// The result is the text's length in bytes; the rest of `out` is as it was. A file of more than `BYTES` bytes gives
-/// `refused 3`, and of what is lent only `out` is written.
+/// The text has a line `open H W` for each opened word W and its handle H. The last line is `end N A B C D`, with the
+/// commands done and the counts of words that miners 1, 2, 3 and the controller received, or `refused R at K`, with the
+/// number of the refusal and the refused command, counted from 0. A session that is refused as a whole gives
+/// `refused R` alone.
+///
+/// The result is the text's length in bytes; the rest of `out` is as it was. A file of over `BYTES` bytes gives
+/// `refused 3`, and then nothing but `out` is written; Specification: Program.
 pub fn pool(
     file: &[u8],
     words: &mut [u32],

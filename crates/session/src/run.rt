@@ -13,7 +13,7 @@ use machine::run;
 use protocols::lent::{Lists, Tapes};
 use protocols::place::Place;
 
-// Body k: the part of the word list that the contents name.
+// Body k of a file's words; Specification: Contents.
 fn body(words: &[u32], k: usize) -> &[u32]
     requires index { k ≤ 5 }
     requires bodies { Bodies words.now }
@@ -24,7 +24,7 @@ fn body(words: &[u32], k: usize) -> &[u32]
     &words[start..end]
 }
 
-// The run of a file's words.
+// Runs the commands of a file's words, on the inputs and tapes of these words, up to the first refusal.
 pub(crate) fn run_words(words: &[u32], tables: &mut Tables, lists: &mut Lists) -> SessionAnswer
     requires { Bodies words.now }
     ensures same_tables { SameTables tables.old tables.new }

@@ -1,4 +1,4 @@
-//! The session of a file: numbers 1 to 4 tested, the file's words decoded, and its commands run.
+//! The session of a file: its refusals are tested, its words decoded, its commands run; Specification: Sessions.
 ghost use Rattle.std.specs.Prelude.{◌≡◌};
 ghost use Rattle.protocols.specs.Lent.{SameLists};
 ghost use Rattle.machine.specs.Lent.{SameTables};
@@ -11,22 +11,20 @@ use super::{contents, run};
 use machine::lent::Tables;
 use protocols::lent::Lists;
 
-/// How many words a session must be lent: no legal file has more.
+/// The fewest words to lend to a session: no session file has more; Specification: Limits.
 pub const WORDS: usize = 7692;
 
-/// Runs the commands of a session file, from an empty place record up to the first that is refused.
+/// Runs the commands of a session file from an empty place record up to the first refusal; Specification: Sessions.
 ///
-/// `file` is words of four bytes each, the lowest first: six pairs of a start and a count, in words, and then the
-/// commands, three words each, the inputs, the provider's tape and the tapes of miners 1 to 3. Lent are `WORDS` words
-/// or more for the file's words, three share tables and a kind list of one length, and the four received lists. A
-/// command that needs one entry or one received word more than there is room for is refused with 10 or 13.
+/// `file` holds the contents, the commands, the inputs and four tapes, in words of four bytes, the lowest first;
+/// Specification: Contents. Lent are at least `WORDS` words, to which the file is decoded, three share tables and a
+/// kind list of one length, and four received lists of any lengths.
 ///
-/// The answer's number is 0 if every command was done. With 1 to 4 nothing that is lent is written:
-/// 1, the file has under 48 bytes or is not of whole words; 2, a body does not start where the one before it ends, or
-/// the last one does not end the file; 3, a body is over its limit, or the commands are not in threes; 4, a share table
-/// differs in length from the kind list, or fewer than `WORDS` words are lent. With 5 to 13, the number of the first
-/// refused command, what the commands before it wrote remains. Whenever none of 1 to 4 applies the lent words begin
-/// with the file's, and the rest of them is as it was.
+/// The answer's number is 0 if every command was done. It is 1 to 4 if the session is refused as a whole, and then
+/// nothing is written: 1 and 2 for a file that is no sheet, 3 for a body over its limit or an incomplete command, 4 for
+/// lent lists that do not fit. It is 5 to 13 if a command is refused, and then what the commands before it wrote
+/// remains. Unless the session is refused as a whole, the file's words are at the front of `words` afterwards, and the
+/// other words are as they were.
 #[tactic(auto, using(crate::proofs::Laws::Session::words_lent))]
 pub fn session(
     file: &[u8],

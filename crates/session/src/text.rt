@@ -1,4 +1,4 @@
-//! The lines of text, put at the front of a lent buffer.
+//! The lines of a session's text, written to the front of a lent buffer; Specification: Lines.
 ghost use Rattle.std.specs.Prelude.{◌≡◌, ◌+◌, ◌*◌, ◌≤◌, [], ◌∷◌, length};
 ghost use Rattle.protocols.specs.Word.{modulus};
 ghost use Rattle.protocols.specs.Shares.{shares_of, sum_of};
@@ -14,8 +14,7 @@ use protocols::shares::Shares;
 // The code of the command that opens a value.
 const OPEN: u32 = 11;
 
-// The text so far, at the front of a lent buffer of fixed size. Each method asks for the room that it needs, so that no
-// write can fail.
+// The text so far, at the front of a lent buffer. Each method requires the room that it needs, so that no write fails.
 #[derive(Drop)]
 pub(crate) struct Text<'a> {
     out: &'a mut [u8],
@@ -68,7 +67,7 @@ impl<'a> Text<'a> {
         }
     }
 
-    // A name, its numbers and the end of the line.
+    // A line: a name, its numbers, a line feed.
     fn put_line(&mut self, name: &[u8], numbers: &[u64])
         requires { HasRoom self.old (length name.now + 21 * length numbers.now + 1) }
         ensures added { Adds self.old (spec.line name.now numbers.now) self.new }
@@ -79,7 +78,7 @@ impl<'a> Text<'a> {
         self.put_bytes(b"\n");
     }
 
-    // A line for each open among accepted commands; the shares are the controller's, three for each.
+    // `open H W` for each open among accepted commands; the shares are the controller's, three for each open.
     pub(crate) fn put_opens(&mut self, commands: &[u32], shares: &[u32])
         requires { 3 * self.old.len + 47 * length commands.now ≤ 3 * length self.old.out.now }
         ensures added { Adds self.old
@@ -97,7 +96,7 @@ impl<'a> Text<'a> {
         }
     }
 
-    // What ends the text: all commands were done, or one was refused.
+    // The last line: all commands were done, or one was refused.
     pub(crate) fn put_last(&mut self, answer: SessionAnswer)
         requires { HasRoom self.old 109 }
         ensures { Adds self.old (last_line answer) self.new }
@@ -109,7 +108,7 @@ impl<'a> Text<'a> {
         }
     }
 
-    // That all commands were done, and how many words were received.
+    // `end N A B C D`: all commands were done, and so many words were received.
     #[tactic(auto, unfolding(crate::specs::Text::end_line))]
     fn put_end(&mut self, answer: SessionAnswer)
         requires { HasRoom self.old 109 }
@@ -126,7 +125,7 @@ impl<'a> Text<'a> {
         self.put_line(b"end", &numbers);
     }
 
-    // That a command was refused, with which number.
+    // `refused R at K`: this command was refused with this number.
     fn put_stop(&mut self, number: u32, command: usize)
         requires { HasRoom self.old 53 }
         ensures { Adds self.old (stop_line number command) self.new }
@@ -136,7 +135,7 @@ impl<'a> Text<'a> {
         self.put_line(b" at", &[command as u64]);
     }
 
-    // That the session was turned down as a whole.
+    // `refused R`: the session was refused as a whole.
     #[tactic(auto, unfolding(crate::specs::Text::refusal_line))]
     pub(crate) fn put_refusal(&mut self, number: u32)
         requires { HasRoom self.old 29 }

@@ -1,9 +1,9 @@
-//! A file's words, put at the front of the lent ones.
+//! A file's words, written to the front of the lent ones; Specification: Sheet file.
 ghost use Rattle.std.specs.Prelude.{◌≡◌, ◌+◌, ◌++◌, ◌/◌, ◌≤◌, length, drop};
 ghost use Rattle.std.proofs.lemmas.List.Edits.{sets};
 ghost use Rattle.session.specs.Words.{words_of};
 
-// Puts the words of bytes at a place of the lent ones.
+// Writes the words of `bytes` to `words` from index `at` on.
 #[inline(always)]
 fn put_words(bytes: &[u8], words: &mut [u32], at: usize)
     requires { at + length bytes.now / 4 ≤ length words.old }
@@ -15,8 +15,8 @@ fn put_words(bytes: &[u8], words: &mut [u32], at: usize)
     }
 }
 
-// The same of a block of four words. It is taken by value, so that all of it is read before a word is written: the
-// compiler does not know that the words are not the file's own bytes.
+// The same for four words. The block is passed by value, so that it is read before a word is written: the compiler does
+// not know that `words` and the file do not overlap.
 #[inline(always)]
 fn put_block(block: [u8; 16], words: &mut [u32], at: usize)
     requires { at + 4 ≤ length words.old }
@@ -25,7 +25,7 @@ fn put_block(block: [u8; 16], words: &mut [u32], at: usize)
     put_words(&block, words, at);
 }
 
-// Puts the file's words at the front of the lent ones.
+// Writes the file's words to the front of `words`.
 pub(crate) fn decode(file: &[u8], words: &mut [u32])
     requires { length file.now / 4 ≤ length words.old }
     ensures { words.new ≡ words_of file.now ++ drop (length file.now / 4) words.old }

@@ -1,4 +1,4 @@
-//! A session with lists of chosen lengths, all zero.
+//! A session that is lent lists of chosen lengths, all zero.
 use machine::lent::Tables;
 use protocols::lent::Lists;
 use session::{TEXT, WORDS};
@@ -14,7 +14,7 @@ pub struct Lending {
     pub words: usize,
 }
 
-// As `pool` lends them.
+// The lengths that `pool` lends.
 pub(crate) const WHOLE: Lending = Lending {
     entries: 128,
     kinds: 128,
@@ -28,7 +28,7 @@ fn front(list: &mut [u32], count: usize) -> &mut [u32] {
     &mut list[..end]
 }
 
-// The arrays are those of `pool`: one function for both would give that program lengths to choose, for this test alone.
+// Prints the text of a session. The arrays repeat those of `pool`, so that the program has no parameters for this test.
 pub(crate) fn print(out: &mut impl Write, file: &[u8], lent: Lending) -> io::Result<()> {
     let mut words = [0u32; WORDS];
     let mut share1 = [0u32; 128];

@@ -1,4 +1,5 @@
-//! Prints, for each session file that an argument names, its name and what `pool` prints of it under four lendings.
+//! Prints, for each session file that an argument names, its name and the texts of its session under four lendings: the
+//! lists of `pool`, lists with little room, one word too few, and a kind list that is too short.
 #![tactic(auto)]
 
 mod lending;
@@ -13,7 +14,7 @@ use std::process::ExitCode;
 use std::rt::{Env, Files};
 use std::{fs, io};
 
-// The file's bytes stand at the start of the buffer; a file that is longer than any legal one fills it.
+// Prints the four texts of a file.
 fn print_all(out: &mut impl Write, file: &[u8]) -> io::Result<()> {
     for lent in [
         WHOLE,
@@ -37,7 +38,7 @@ fn print_all(out: &mut impl Write, file: &[u8]) -> io::Result<()> {
     Ok(())
 }
 
-// Puts a file's bytes at the start of the buffer. A path that is not UTF-8 is refused, as `std::fs` has it.
+// Reads a file to the front of the buffer. As in `std::fs`, a path that is not UTF-8 is an error.
 fn read_file(rt: &impl Files, path: &[u8], buffer: &mut [u8]) -> io::Result<usize>
     ensures { ReadsAtMost result buffer.new }
 {
@@ -47,8 +48,8 @@ fn read_file(rt: &impl Files, path: &[u8], buffer: &mut [u8]) -> io::Result<usiz
     reading::read_whole(&mut fs::open(rt, path)?, buffer)
 }
 
-// Argument after argument, until one is missing. One that cannot be read is reported on standard error and does not end
-// the run; where the report fails too, the exit status still tells it.
+// Goes through the arguments to the last one. A file that cannot be read is reported on standard error and does not end
+// the run; the exit status shows it even if the report fails.
 fn print_arguments(rt: &(impl Env + Files + Eprint), out: &mut impl Write) -> io::Result<ExitCode> {
     let mut status = ExitCode::SUCCESS;
     for k in 1..usize::MAX {

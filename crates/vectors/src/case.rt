@@ -1,4 +1,4 @@
-//! Generated cases: operands, a place that has moved on already, and tapes.
+//! Generated cases: operands, a place record with counts other than 0, and tapes.
 use crate::code::Code;
 use crate::lists::Delivered;
 use crate::words::Generator;
@@ -27,7 +27,7 @@ pub(crate) const WHOLE_LISTS: Received = Received {
     controller: 32,
 };
 
-// A protocol with its operands, the place, and how much is lent of each tape and list.
+// A protocol, its operands, the place record, and how many words of each tape and list are lent.
 #[derive(Clone, Copy)]
 pub struct Case {
     pub code: Code,
@@ -37,7 +37,7 @@ pub struct Case {
     pub room: Received,
 }
 
-// Two random values are never equal: so v becomes u, or a power of two away from it.
+// Random values are hardly ever equal: so v gets the value of u, or one that differs from it by a power of two.
 fn near_value(u: Shares, v: Shares, word: u32) -> Shares {
     let apart = (word % 2) << (word / 2 % 32);
     let rest = open::total(u).wrapping_sub(v.one).wrapping_sub(v.two);
@@ -47,7 +47,7 @@ fn near_value(u: Shares, v: Shares, word: u32) -> Shares {
     }
 }
 
-// The next two values and an input.
+// The operands of the next case.
 fn operands(code: Code, generator: &mut Generator) -> Arguments {
     let u = Shares::from(generator.words());
     let v = Shares::from(generator.words());
@@ -66,7 +66,7 @@ fn operands(code: Code, generator: &mut Generator) -> Arguments {
     }
 }
 
-// Counts drawn already, mostly not 0: the words before the place must not be used.
+// A place record whose counts are mostly not 0: the words that it counts must not be used.
 fn place(generator: &mut Generator) -> Place {
     let [handles, inputs]: [usize; 2] = generator.words().map(|word| (word % 100) as usize);
     let [provider, drawn1, drawn2, drawn3]: [usize; 4] = generator
@@ -81,7 +81,7 @@ fn place(generator: &mut Generator) -> Place {
     ])
 }
 
-// What is lent of each tape: from one word too few to six too many, where the protocol draws from the tape at all.
+// How much of each tape is lent: from one word too few to six too many, if the protocol draws from it at all.
 fn lent_lengths(code: Code, drawn: Drawn, generator: &mut Generator) -> Drawn {
     let need = code.row().drawn;
     let [provider, one, two, three]: [usize; 4] = generator.words().map(|word| (word % 8) as usize);
@@ -111,7 +111,7 @@ pub(crate) fn next_case(code: Code, generator: &mut Generator) -> Case {
     }
 }
 
-// Performs a case on tapes of the next words, 32 to each.
+// Performs a case on four tapes of the next 32 words each.
 pub(crate) fn perform(case: &Case, generator: &mut Generator) -> Delivered {
     let provider = generator.words::<32>();
     let one = generator.words::<32>();
@@ -126,7 +126,7 @@ pub(crate) fn perform(case: &Case, generator: &mut Generator) -> Delivered {
     lists::perform(case, &tapes)
 }
 
-// The first tape that a protocol draws from. One that draws from none sends nothing.
+// The first tape from which a protocol draws. One that draws from no tape sends nothing either.
 pub(crate) fn first_tape(code: Code) -> Option<Party> {
     let drawn = code.row().drawn;
     [Party::Provider, Party::One]

@@ -56,7 +56,7 @@ fn outcome(h: u32, delivered: &Delivered) -> u32 {
         .fold(h, |h, (_, list)| received_words(h, list))
 }
 
-// Tapes may be too short, so that some of the outcomes are not done.
+// Tapes may be too short, so that some of the protocols are not done.
 pub(crate) fn print(out: &mut impl Write, code: Code, generator: &mut Generator) -> io::Result<()> {
     let mut h = 0;
     for _ in 0..200 {

@@ -10,7 +10,7 @@ use protocols::outcome::{Done, Shortage};
 use protocols::place::Place;
 use std::fmt;
 
-// In the order in which their protocols are run.
+// The commands, in the order in which their cases are printed.
 pub(crate) const CODES: [Code; 12] = [
     Code::Store,
     Code::Add,

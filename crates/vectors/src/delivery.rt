@@ -1,4 +1,5 @@
-//! Received lists with exactly enough room, with more, and with one word less: number 13, the place and all lists stay.
+//! Received lists with exactly enough room, with more, and with one word less: then the number is 13, and the place
+//! record and all lists stay.
 use crate::case::Case;
 use crate::code::Code;
 use crate::lists::Receiver;
@@ -9,7 +10,7 @@ use std::fmt::Display;
 use std::io;
 use std::io::Write;
 
-// The room that each list needs and so many words more; in the short one a word less.
+// The room that each list needs and so many words more; in the short list one word less.
 fn room(code: Code, more: usize, short: Option<Receiver>) -> Received {
     let need = code.row().received;
     let room = |receiver: Receiver| {
@@ -23,7 +24,7 @@ fn room(code: Code, more: usize, short: Option<Receiver>) -> Received {
     }
 }
 
-// Prints the lists whole.
+// Prints a case with its lists whole.
 fn line(
     out: &mut impl Write,
     label: impl Display + Drop,
@@ -39,9 +40,8 @@ fn line(
     print::lists(out, &delivered, true)
 }
 
-// A protocol that sends, on the case of its tapes that end too soon, and all on the same words: a line for exactly
-// enough room, for more, and for each list that the protocol's words go to, a word short. Where a tape is short too,
-// that counts first: number 12.
+// The cases of a protocol that sends words, all on the same operands and tapes: exactly enough room, more room, and
+// each list to which it sends one word short. In the last case a tape is short too, and the number is 12.
 pub(crate) fn print(out: &mut impl Write, code: Code, mut generator: Generator) -> io::Result<()> {
     let Some(first) = case::first_tape(code) else {
         return Ok(());

@@ -1,5 +1,5 @@
-//! The received lists of a case: 32 words each, 100 to 131 beforehand.
-//! No case sends the word that stands there, so each word put into them shows.
+//! The received lists of a case: 32 words each, at first 100 to 131.
+//! No case sends the word that a list already has at a position, so each word that is written shows.
 use crate::case::Case;
 use crate::words;
 use machine::refusal::Refusal;
@@ -19,7 +19,7 @@ pub enum Receiver {
 }
 
 impl Receiver {
-    // How many words are for this list.
+    // How many of these words go to this list.
     pub(crate) fn due(self, received: Received) -> usize {
         match self {
             Receiver::One => received.one,
@@ -41,8 +41,7 @@ impl fmt::Display for Receiver {
     }
 }
 
-// What a protocol answers from a place, and each receiver's list as it leaves it, in the order in which they are
-// printed.
+// What a protocol answers, and the lists that it leaves, in the order in which they are printed.
 #[derive(Clone, Copy)]
 pub struct Delivered {
     place: Place,
@@ -59,7 +58,7 @@ impl Delivered {
         }
     }
 
-    // The new shares and the moved place; or no shares, and the place as it was.
+    // The new shares and the next place record; or shares 0 and the place record as it was.
     pub(crate) fn done(&self) -> Done {
         self.outcome.unwrap_or(Done {
             shares: Shares::default(),
@@ -68,12 +67,12 @@ impl Delivered {
     }
 }
 
-// The words of a list beforehand.
+// The words of a list before a case.
 fn before() -> [u32; 32] {
     words::in_a_row(100)
 }
 
-// How many words were put into a list.
+// How many words were written to a list.
 pub(crate) fn received_count(list: &[u32; 32]) -> usize {
     list.iter()
         .zip(&before())
@@ -86,13 +85,13 @@ fn front(tape: &[u32], count: usize) -> &[u32] {
     tape.get(..count).unwrap_or(tape)
 }
 
-// A tail of a list, with so much room.
+// The end of a list, with so much room.
 fn tail(list: &mut [u32], room: usize) -> &mut [u32] {
     let start = list.len().saturating_sub(room);
     &mut list[start..]
 }
 
-// Performs a case on what it lends: fronts of the tapes and tails of the lists. The operands' input is also the
+// Performs a case on the fronts of the tapes and the ends of the lists that it lends. The operands' input is also the
 // constant or the position.
 pub(crate) fn perform(case: &Case, tapes: &Tapes) -> Delivered {
     let Case {

@@ -1,4 +1,4 @@
-//! Runs the cases of tests/protocol_vectors.py on the protocols, and writes what that writes.
+//! Runs the cases of tests/protocol_vectors.py on the protocols, and writes the same text.
 #![tactic(auto)]
 
 mod case;
@@ -16,8 +16,8 @@ use std::io;
 use std::io::Write;
 use words::Generator;
 
-// A protocol's generated cases: three in full, the tapes that end too soon and, on the same words, the lists that are
-// too short, and two hundred as a checksum.
+// A protocol's generated cases: three in full, those of tapes that are too short, on the same words those of lists that
+// are too short, and two hundred as a checksum.
 fn print_generated(out: &mut impl Write, code: Code, generator: &mut Generator) -> io::Result<()> {
     for number in 1..=3 {
         case::print(out, number, code, generator)?;

@@ -1,4 +1,5 @@
-//! Tapes with exactly enough words, and with one word too few: number 12, the place stays and no word is sent.
+//! Tapes with exactly enough words, and with one word too few: then the number is 12, the place record stays and no
+//! word is sent.
 use crate::case::Case;
 use crate::code::Code;
 use crate::words::Generator;
@@ -7,12 +8,12 @@ use protocols::place::{Drawn, Party, Place};
 use std::io;
 use std::io::Write;
 
-// The place record 1 to 10, in which a changed number shows.
+// The place record 1 to 10, in which every change shows.
 pub(crate) fn place() -> Place {
     Place::from([1, 2, 3, 4, 5, 6, 7, 8, 9, 10])
 }
 
-// What is needed beside other words, or one word less.
+// Other words and the words needed, or one word less.
 pub(crate) fn enough(beside: usize, need: usize, is_short: bool) -> usize {
     beside
         .saturating_add(need)
@@ -31,7 +32,7 @@ pub(crate) fn each_tape<F: Fn(Party) -> usize>(words: F) -> Drawn
     }
 }
 
-// Enough of each tape beside the words drawn already, but for the one that is a word short.
+// Of each tape the words drawn before and those that the protocol draws, of the short tape one word less.
 pub(crate) fn lent_lengths(code: Code, short: Option<Party>) -> Drawn {
     let need = code.row().drawn;
     let drawn = place().drawn;
@@ -54,7 +55,8 @@ fn line(out: &mut impl Write, tape: &str, case: Case, generator: &mut Generator)
     writeln!(out)
 }
 
-// A protocol that draws has a line for each tape that it draws from and one for none, all on the same words.
+// A line for each tape from which the protocol draws, with this tape one word short, and one with no short tape, all on
+// the same words.
 pub(crate) fn print(out: &mut impl Write, code: Code, generator: &mut Generator) -> io::Result<()> {
     if case::first_tape(code).is_none() {
         return Ok(());

@@ -1,7 +1,7 @@
-//! Lists of words for the cases: those of a congruential generator, or numbers in a row.
+//! Lists of words for the cases: from a congruential generator, or numbers in a row.
 use std::array;
 
-// A generator, where it is.
+// A generator of words, with its state.
 #[derive(Clone, Copy)]
 pub struct Generator {
     at: u32,

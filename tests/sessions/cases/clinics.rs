@@ -1,4 +1,4 @@
-//! Sessions as the clinics would send them.
+//! Sessions with inputs of several clinics.
 
 use super::Cases;
 use crate::reference::machine::{ADD, BELOW, EQUAL, MULTIPLY, OPEN, STORE};
@@ -21,16 +21,16 @@ fn stumbles_times_hours(cases: &mut Cases) {
         [ADD, 10, 9],
         [OPEN, 11, 0],
     ]);
-    // Three knees: stumbles times hours, the products added up, 971 opened.
+    // Stumbles times hours of three knees; the sum of the products, 971, is opened.
     cases.run("stumbles_times_hours", 0, &commands, &inputs);
 }
 
 fn setting_codes_compared(cases: &mut Cases) {
-    // Swing damping, then stance damping: the first clinic's code, the second clinic's code.
+    // Swing damping, then stance damping: the codes of the first and the second clinic.
     let inputs = [4_127, 4_127, 2_210, 2_212];
     let mut commands = vec![[STORE, 0, 0]; 4];
     commands.extend([[EQUAL, 1, 2], [EQUAL, 3, 4], [OPEN, 5, 0], [OPEN, 6, 0]]);
-    // Two clinics' setting codes: the swing codes agree (1), the stance codes do not (0).
+    // The swing codes agree (1), the stance codes do not (0).
     cases.run("setting_codes_compared", 0, &commands, &inputs);
 }
 

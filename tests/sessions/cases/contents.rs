@@ -1,4 +1,5 @@
-//! Numbers 2 and 3: the contents rule broken each way, bodies over their limits, and threes.
+//! Numbers 2 and 3: contents wrong in each way, bodies over their limits, incomplete commands.
+//! Specification: Contents; Limits.
 
 use super::{exact_sheet, worked, Cases};
 use crate::reference::machine::{ADD, STORE};
@@ -29,7 +30,7 @@ fn worked_with(replaced: &[(usize, u32)]) -> Vec<u8> {
 }
 
 fn starts(cases: &mut Cases) {
-    // The table's example of number 2: first start 13.
+    // The example of number 2: first start 13.
     cases.file("refused_02_first_start_13", 2, worked_with(&[(0, 13)]));
     let words = worked().words();
     for body in 0..6 {
@@ -37,10 +38,10 @@ fn starts(cases: &mut Cases) {
         for (way, moved) in [("low", u32::MAX), ("high", 1)] {
             let wrong = start.wrapping_add(moved);
             let kept_end = count.wrapping_sub(moved);
-            // This start alone off by one, the count as it was: the next start is off too.
+            // One start off by one, its count as it was: the next start does not fit either.
             let name = format!("start_{}_{way}", BODY_NAMES[body]);
             cases.file(&name, 2, worked_with(&[(2 * body, wrong)]));
-            // The count makes up for the start: no other start, nor the end, is off.
+            // One start off by one, its count changed to fit: only this start is wrong.
             let name = format!("start_{}_{way}_end_kept", BODY_NAMES[body]);
             let replaced = [(2 * body, wrong), (2 * body + 1, kept_end)];
             cases.file(&name, 2, worked_with(&replaced));
@@ -65,7 +66,7 @@ fn ends(cases: &mut Cases) {
     cases.file("end_far", 2, worked_with(&[(11, u32::MAX)]));
 }
 
-/// "Added without wrapping": these agree only modulo 2^32.
+/// Starts and counts that fit only modulo 2^32.
 fn wrapping_starts(cases: &mut Cases) {
     let words = worked().words();
     for body in 0..5 {
@@ -76,7 +77,7 @@ fn wrapping_starts(cases: &mut Cases) {
             (2 * body + 2, back),
             (2 * body + 3, next - back),
         ];
-        // This body's count leads, wrapping, to a next start one before its own.
+        // One start plus count wraps to a next start one before it.
         let name = format!("wrap_after_{}", BODY_NAMES[body]);
         cases.file(&name, 2, worked_with(&replaced));
     }
@@ -93,12 +94,12 @@ fn limits(cases: &mut Cases) {
     for body in 0..6 {
         let mut bodies = exact_sheet("limits", &commands, &[7]).bodies();
         bodies[body].resize(LIMITS[body], 1);
-        // This body exactly at its limit, 128 commands done.
+        // One body exactly at its limit, 128 commands done.
         let name = format!("limit_{}", BODY_NAMES[body]);
         cases.file(&name, 0, bytes_of_words(&words_of_bodies(&bodies)));
         let over = if body == 0 { 387 } else { LIMITS[body] + 1 };
         bodies[body].resize(over, 1);
-        // This body one over its limit (one command over, for the commands).
+        // One body a word over its limit, the commands a whole command over.
         let name = match body {
             1 => "refused_03_129_inputs".to_string(),
             _ => format!("over_{}", BODY_NAMES[body]),
@@ -107,7 +108,7 @@ fn limits(cases: &mut Cases) {
     }
     let mut bodies = exact_sheet("limits", &commands, &[7]).bodies();
     bodies[0].push(1);
-    // The commands one word over their limit: not in threes either.
+    // The commands one word over their limit, so the last command is incomplete too.
     let bytes = bytes_of_words(&words_of_bodies(&bodies));
     cases.file("over_commands_by_a_word", 3, bytes);
 }
@@ -126,7 +127,7 @@ fn threes(cases: &mut Cases) {
     cases.file("threes_one_word", 3, bytes);
 }
 
-/// "The lowest number that applies is given."
+/// Two numbers at once: the lower one is answered. Specification: Order of refusals.
 fn two_at_once(cases: &mut Cases) {
     // 1 before 2: first start 13 and a byte too many.
     let mut bytes = worked_with(&[(0, 13)]);
@@ -139,7 +140,7 @@ fn two_at_once(cases: &mut Cases) {
     let mut bytes = bytes_of_words(&words);
     bytes.extend([0; 3]);
     cases.file("both_01_03", 1, bytes);
-    // 3 before 5: 129 inputs and a first command of code 0 (and 3 before 4 under two lendings).
+    // 3 before 5: 129 inputs and a first command of code 0. With lists lent too short, 3 before 4.
     words[12] = 0;
     cases.file("both_03_05", 3, bytes_of_words(&words));
     // 2 before 3: 129 inputs and first start 11.

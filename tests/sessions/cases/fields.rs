@@ -1,4 +1,5 @@
-//! Numbers 5 to 9, told from a command's own words, and two numbers that apply at once.
+//! Numbers 5 to 9, which a command's own words give, and two numbers that apply at once.
+//! Specification: Table of refusals.
 
 use super::{Cases, COMMAND_NAMES};
 use crate::reference::machine::{
@@ -39,7 +40,7 @@ fn tried(cases: &mut Cases, name: &str, number: u32, command: [u32; 3]) {
 }
 
 fn codes(cases: &mut Cases) {
-    // The table's example of number 5: 0, 0, 0, as a session's first command.
+    // The example of number 5, 0, 0, 0, as a session's first command.
     cases.run("refused_05_code_0", 5, &[[0, 0, 0]], &[]);
     // Code 0 after accepted commands.
     tried(cases, "code_0_later", 5, [0, 0, 0]);
@@ -56,7 +57,7 @@ fn codes(cases: &mut Cases) {
 }
 
 fn unused_fields(cases: &mut Cases) {
-    // The table's example of number 6: 1, 0, 7.
+    // The example of number 6: 1, 0, 7.
     cases.run("refused_06_store_b_7", 6, &[[STORE, 0, 7]], &[7]);
     for code in 1..=12 {
         let row = &ROWS[code as usize - 1];
@@ -77,7 +78,7 @@ fn unused_fields(cases: &mut Cases) {
 }
 
 fn handles(cases: &mut Cases) {
-    // The table's example of number 7: 2, 0, 1.
+    // The example of number 7: 2, 0, 1.
     tried(cases, "refused_07_add_0_1", 7, [ADD, 0, 1]);
     for code in 1..=12 {
         let row = &ROWS[code as usize - 1];
@@ -98,7 +99,7 @@ fn handles(cases: &mut Cases) {
     cases.run("handle_of_empty_tables", 7, &[[OPEN, 1, 0]], &[]);
     // Handle 128 is in the tables but not filled.
     tried(cases, "handle_128", 7, [OPEN, 128, 0]);
-    // Handle 129 is beyond the tables.
+    // Handle 129 is past the end of the tables.
     tried(cases, "handle_129", 7, [ADD, 1, 129]);
     // Handle 1 in its lowest byte only.
     tried(cases, "handle_257", 7, [RESHARE, 257, 0]);
@@ -109,7 +110,7 @@ fn handles(cases: &mut Cases) {
 }
 
 fn kinds(cases: &mut Cases) {
-    // The table's example of number 8: 11 on a bit word.
+    // The example of number 8: 11 on a bit word.
     tried(cases, "refused_08_open_bit_word", 8, [OPEN, 3, 0]);
     for code in 1..=12 {
         let row = &ROWS[code as usize - 1];
@@ -129,7 +130,7 @@ fn kinds(cases: &mut Cases) {
 }
 
 fn positions(cases: &mut Cases) {
-    // The table's example of number 9, on the first handle that can be a bit word: 9, 3, 32.
+    // The example of number 9 on a bit word: 9, 3, 32.
     tried(cases, "refused_09_bit_32", 9, [BIT, 3, 32]);
     for (name, position, number) in [
         ("position_0", 0, 0),
@@ -148,7 +149,7 @@ fn positions(cases: &mut Cases) {
     }
 }
 
-/// "The lowest number that applies is given."
+/// Two numbers at once: the lower one is answered. Specification: Order of refusals.
 fn two_at_once(cases: &mut Cases) {
     // 5 before 6: no such code, and fields that no store may have.
     tried(cases, "both_05_06", 5, [0, 1, 1]);
@@ -168,13 +169,13 @@ fn two_at_once(cases: &mut Cases) {
     tried(cases, "both_08_09", 8, [BIT, 1, 32]);
     // 6 before 11: a store with a nonzero field and no input.
     cases.run("both_06_11", 6, &[[STORE, 5, 0]], &[]);
-    // 7 before 10, under 'small': the table is full and handle 2 is not filled.
+    // 7 before 10, in 'small' lists: the table is full and handle 2 is not filled.
     let commands = [[STORE, 0, 0], [ADD, 1, 2]];
     cases.run("both_07_10", 7, &commands, &[7]);
-    // 6 before 10, under 'small': the table is full and a field that must be 0 is not.
+    // 6 before 10, in 'small' lists: the table is full and a field that must be 0 is not.
     let commands = [[STORE, 0, 0], [STORE, 0, 1]];
     cases.run("both_06_10", 6, &commands, &[7, 5]);
-    // 6 before 13, under 'small': the controller's list is too short and the field not 0.
+    // 6 before 13, in 'small' lists: the controller's list is too short and the field not 0.
     let commands = [[STORE, 0, 0], [OPEN, 1, 1]];
     cases.run("both_06_13", 6, &commands, &[7]);
 }
@@ -189,7 +190,7 @@ fn stops_at_refusal(cases: &mut Cases) {
     ];
     // What was opened before the refused command is printed; nothing after it is done.
     cases.run("stops_at_refusal", 7, &commands, &[7, 5]);
-    // Only the first of two refused commands is told.
+    // The first of two refused commands is answered.
     let commands = [[STORE, 0, 0], [OPEN, 1, 0], [13, 0, 0], [OPEN, 9, 0]];
     cases.run("first_of_two_refusals", 5, &commands, &[7]);
     let mut commands = vec![[OPEN, 1, 0]; 128];

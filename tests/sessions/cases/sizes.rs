@@ -1,4 +1,5 @@
-//! Number 1 and the file's length: the shortest files, the longest legal one, and beyond.
+//! Number 1 and the file's length: the shortest files, the longest legal one, and longer ones.
+//! Specification: Sheet file; Program.
 
 use super::{exact_sheet, seeded, worked, Cases};
 use crate::reference::machine::{
@@ -15,13 +16,13 @@ pub fn add(cases: &mut Cases) {
 }
 
 fn short_files(cases: &mut Cases) {
-    // The table's example of number 1: 47 bytes, a byte short of the contents.
+    // The example of number 1: 47 bytes, a byte short of the contents.
     cases.file(
         "refused_01_47_bytes",
         1,
         sized(Sheet::default().bytes(), 47),
     );
-    // The empty session cut short or grown by zero bytes; 48 is right, 52 breaks the end.
+    // The empty session cut short or with zero bytes behind; 48 is right, at 52 the end does not fit.
     for (length, number) in [
         (0, 1),
         (1, 1),
@@ -115,7 +116,7 @@ fn files_near_the_longest(cases: &mut Cases) {
     let mut start_13 = longest.clone();
     start_13[0] = 13;
     cases.file("bytes_30768_start_13", 2, start_13);
-    // 30,768 bytes whose contents hold, with one tape over its limit and the next one under.
+    // 30,768 bytes with right contents, one tape over its limit and the next one under.
     let mut shifted = longest;
     shifted[36..40].copy_from_slice(&2_305u32.to_le_bytes());
     shifted[40..44].copy_from_slice(&5_389u32.to_le_bytes());

@@ -1,4 +1,5 @@
 //! Numbers 10 to 13: full tables, used inputs, spent tapes and filled received lists.
+//! Specification: Table of refusals.
 
 use super::fields::{accepted, BEFORE};
 use super::{exact_sheet, Cases, COMMAND_NAMES};
@@ -14,19 +15,19 @@ pub fn add(cases: &mut Cases) {
 }
 
 fn table_examples(cases: &mut Cases) {
-    // The table's example of number 10, under 'small': second store, tables of 1.
+    // Number 10: a second store, where the 'small' tables have one entry.
     let stores = [[STORE, 0, 0], [STORE, 0, 0]];
     cases.run("refused_10_second_store", 0, &stores, &[7, 5]);
-    // The table's example of number 11: store, no inputs.
+    // Number 11: a store when the sheet has no input.
     cases.run("refused_11_store_no_inputs", 11, &stores[..1], &[]);
     // A second store, the only input used.
     cases.run("second_store_one_input", 11, &stores, &[7]);
-    // The table's example of number 12: reshare, tape 2 empty.
+    // Number 12: reshare, when miner 2's tape is empty.
     let commands = [[STORE, 0, 0], [RESHARE, 1, 0]];
     let mut sheet = exact_sheet("refused_12_reshare_tape_2_empty", &commands, &[7]);
     sheet.tapes[2].clear();
     cases.file("refused_12_reshare_tape_2_empty", 12, sheet.bytes());
-    // The table's example of number 13, under 'small': open, controller list of 2.
+    // Number 13: open, when the controller's 'small' list has two words.
     let commands = [[STORE, 0, 0], [OPEN, 1, 0]];
     cases.run("refused_13_open_controller_2", 0, &commands, &[7]);
 }
@@ -57,11 +58,12 @@ fn exact_and_short_tapes(cases: &mut Cases) {
         .tapes
         .iter_mut()
         .for_each(|tape| tape.extend([1, 2, 3]));
-    // Words and inputs that are left over do no harm.
+    // Words and inputs may be left over.
     cases.file("spare_words", 0, sheet.bytes());
 }
 
-/// The lower number is given; some of these pairs need 'small'.
+/// Two numbers at once: the lower one is answered; some pairs need the 'small' lists.
+/// Specification: Order of refusals.
 fn two_at_once(cases: &mut Cases) {
     let store_open = [[STORE, 0, 0], [OPEN, 1, 0]];
     let no_tapes = |name: &str, commands: &[[u32; 3]], inputs: &[u32]| {
@@ -69,10 +71,10 @@ fn two_at_once(cases: &mut Cases) {
         sheet.tapes[1..].iter_mut().for_each(Vec::clear);
         sheet.bytes()
     };
-    // 10 before 11, under 'small': table full and inputs used; else 11.
+    // 10 before 11, in 'small' lists: table full and inputs used; else 11.
     let stores = [[STORE, 0, 0], [STORE, 0, 0]];
     cases.run("both_10_11", 11, &stores, &[7]);
-    // 10 before 12, under 'small': table full and tapes empty; else 12.
+    // 10 before 12, in 'small' lists: table full and tapes empty; else 12.
     let multiply = [[STORE, 0, 0], [MULTIPLY, 1, 1]];
     let bytes = no_tapes("both_10_12", &multiply, &[7]);
     cases.file("both_10_12", 12, bytes);
@@ -80,7 +82,7 @@ fn two_at_once(cases: &mut Cases) {
     let mut sheet = exact_sheet("both_11_12", &stores[..1], &[]);
     sheet.tapes[0].clear();
     cases.file("both_11_12", 11, sheet.bytes());
-    // 12 before 13, under 'small': tapes empty and the controller's list too short.
+    // 12 before 13, in 'small' lists: tapes empty and the controller's list too short.
     let bytes = no_tapes("both_12_13", &store_open, &[7]);
     cases.file("both_12_13", 12, bytes);
     // 9 before 12: position 32, and the bits before it used up tape 1.
@@ -111,11 +113,11 @@ fn full_under_small(cases: &mut Cases) {
         if command[2] == 2 {
             command[2] = 1;
         }
-        // Each command with a new value, under 'small' on a full table: 10.
+        // Each command with a new value, in 'small' lists on a full table: 10.
         let name = format!("full_{}", COMMAND_NAMES[code as usize - 1]);
         cases.run(&name, 0, &[[STORE, 0, 0], command], &[7]);
     }
-    // An open needs no entry: under 'small' it is the controller's list that is too short.
+    // An open needs no entry: of the 'small' lists only the controller's is too short.
     let commands = [[STORE, 0, 0], [OPEN, 1, 0], [BITS, 1, 0]];
     cases.run("full_open", 0, &commands, &[7]);
 }

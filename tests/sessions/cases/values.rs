@@ -9,7 +9,7 @@ use crate::reference::machine::{
 const EDGES: [u32; 5] = [0, 1, (1 << 31) - 1, 1 << 31, u32::MAX];
 
 pub fn add(cases: &mut Cases) {
-    reckoned(cases);
+    worked(cases);
     each_command_opened(cases);
     all_in_one(cases);
     edges(cases);
@@ -25,16 +25,17 @@ fn two_and_open(cases: &mut Cases, name: &str, command: [u32; 3], inputs: [u32; 
     cases.run(name, 0, &commands, &inputs);
 }
 
-fn reckoned(cases: &mut Cases) {
-    // M10: 65536 times 65536 is 0.
+/// Specification: Worked computations; Below.
+fn worked(cases: &mut Cases) {
+    // Worked case 10: 65536 times 65536 is 0.
     let inputs = [65_536, 65_536];
-    two_and_open(cases, "m10_65536_times_65536", [MULTIPLY, 1, 2], inputs);
-    // M11: 3 below 5 is 1.
-    two_and_open(cases, "m11_3_below_5", [BELOW, 1, 2], [3, 5]);
-    // M11: 5 below 5 is 0.
-    two_and_open(cases, "m11_5_below_5", [BELOW, 1, 2], [5, 5]);
-    // M12: 4294967295 below 0 is 1 by the rule of bit 31.
-    two_and_open(cases, "m12_top_below_0", [BELOW, 1, 2], [u32::MAX, 0]);
+    two_and_open(cases, "case_10_65536_times_65536", [MULTIPLY, 1, 2], inputs);
+    // Worked case 11: 3 below 5 is 1.
+    two_and_open(cases, "case_11_3_below_5", [BELOW, 1, 2], [3, 5]);
+    // Worked case 11: 5 below 5 is 0.
+    two_and_open(cases, "case_11_5_below_5", [BELOW, 1, 2], [5, 5]);
+    // Worked case 12: 4294967295 below 0 is 1, bit 31 of the difference.
+    two_and_open(cases, "case_12_top_below_0", [BELOW, 1, 2], [u32::MAX, 0]);
     // 0 below 2147483648 is 1, and so is 2147483648 below 0.
     two_and_open(cases, "below_half_apart", [BELOW, 1, 2], [0, 1 << 31]);
     two_and_open(cases, "below_half_apart_back", [BELOW, 2, 1], [0, 1 << 31]);
@@ -58,7 +59,7 @@ fn each_command_opened(cases: &mut Cases) {
         cases.run(&name, 0, &commands, &[118, 4_294_967_000, 61]);
     }
     let commands = [[STORE, 0, 0], [BITS, 1, 0], [BIT, 2, 4], [OPEN, 3, 0]];
-    // Bits are opened by way of bit.
+    // A bit word is opened by the command bit.
     cases.run("opened_bits_by_bit", 0, &commands, &[118]);
 }
 
@@ -81,7 +82,7 @@ fn all_in_one(cases: &mut Cases) {
         [OPEN, 11, 0],
         [OPEN, 12, 0],
     ];
-    // All twelve commands in one session, each on what the last one left.
+    // All twelve commands in one session, each on what the one before it left.
     cases.run("all_twelve_commands", 0, &commands, &[84, 97]);
 }
 
@@ -123,7 +124,7 @@ fn edge_constants(cases: &mut Cases) {
     }
 }
 
-/// "Both handles may be the same."
+/// Commands whose two handles are the same.
 fn same_handle_twice(cases: &mut Cases) {
     for code in [ADD, SUBTRACT, MULTIPLY, EQUAL, BELOW] {
         let commands = [[STORE, 0, 0], [code, 1, 1], [OPEN, 2, 0]];

@@ -1,4 +1,4 @@
-//! Choices that the generated sessions are made by.
+//! Random choices for the generated sessions.
 
 use crate::random::Random;
 

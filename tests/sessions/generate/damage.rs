@@ -1,4 +1,4 @@
-//! Ways in which a session file comes out wrong.
+//! Session files with something wrong.
 
 use crate::random::Random;
 use crate::reference::{LIMITS, LONGEST_FILE};
@@ -41,7 +41,7 @@ fn cut(random: &mut Random, mut bytes: Vec<u8>, step: usize) -> Vec<u8> {
     bytes
 }
 
-/// A byte's place, in the contents half of the time.
+/// The position of a byte, in the contents half of the time.
 fn byte_place(random: &mut Random, bytes: &[u8]) -> usize {
     match random.below(2) {
         0 => random.below(48),
@@ -61,21 +61,21 @@ fn byte_replaced(random: &mut Random, mut bytes: Vec<u8>) -> Vec<u8> {
     bytes
 }
 
-/// A start or count one off, at an edge, or any word; half of the time the rest is made to agree.
+/// A start or count off by one, at an edge, or any word; half of the time the rest is made to fit.
 fn contents_replaced(random: &mut Random, mut words: Vec<u32>) -> Vec<u8> {
     let entry = random.below(12);
     let word = words[entry];
     let edge = random.edge_word();
     words[entry] = random.pick(&[word.wrapping_sub(1), word.wrapping_add(1), edge]);
     if random.percent(50) && entry % 2 == 0 {
-        // The count makes up for the start, so that only this start is off.
+        // The count is changed to fit, so that only this start is wrong.
         let moved = words[entry].wrapping_sub(word);
         words[entry + 1] = words[entry + 1].wrapping_sub(moved);
     }
     bytes_of_words(&words)
 }
 
-/// Starts and counts that agree only if 32-bit sums wrapped.
+/// Starts and counts that fit only modulo 2^32.
 fn contents_wrapped(random: &mut Random, mut words: Vec<u32>) -> Vec<u8> {
     let end = words.len() as u32;
     let body = random.below(6);

@@ -1,4 +1,4 @@
-//! How long the lists are that a caller lends: the program's own lengths half of the time.
+//! Lengths of the lists that a caller lends: those of `pool` half of the time.
 
 use crate::random::Random;
 use crate::reference::machine::Place;

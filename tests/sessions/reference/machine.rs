@@ -1,4 +1,4 @@
-//! The command machine: the table of commands, numbers 4 to 13, and what a command leaves.
+//! The command machine: the table of commands, numbers 4 to 13, and what a command writes.
 
 use super::protocols::{self, Parties, Party, Shares};
 
@@ -15,7 +15,7 @@ pub const EQUAL: u32 = 10;
 pub const OPEN: u32 = 11;
 pub const BELOW: u32 = 12;
 
-/// "Kind 1 is a ring value", "Kind 2 is a bit word".
+/// Specification: Kinds.
 pub const RING: u32 = 1;
 pub const BIT_WORD: u32 = 2;
 
@@ -41,7 +41,7 @@ pub struct Row {
     pub drawn: [usize; 4],
 }
 
-/// Rows of codes 1 to 12.
+/// Rows of codes 1 to 12. Specification: Table of commands.
 pub const ROWS: [Row; 12] = {
     use Field::{Constant, Handle, Position, Unused};
     const A: Field = Handle(RING);
@@ -63,7 +63,7 @@ pub const ROWS: [Row; 12] = {
     ]
 };
 
-/// Only store takes an input, and only store draws from the provider's tape: two words for it.
+/// Only store uses an input, and only store draws from the provider's tape, two words.
 const fn row(fields: [Field; 2], new_kind: u32, received: [usize; 4], drawn: [usize; 4]) -> Row {
     Row {
         fields,
@@ -74,12 +74,12 @@ const fn row(fields: [Field; 2], new_kind: u32, received: [usize; 4], drawn: [us
     }
 }
 
-/// The row of a code; None for "code not 1 to 12".
+/// The row of a code, if a command has it.
 pub fn row_of(code: u32) -> Option<&'static Row> {
     ROWS.get((code as usize).wrapping_sub(1))
 }
 
-/// The place record: filled handles, inputs used, words drawn and words received.
+/// Specification: Place record.
 #[derive(Clone, Copy, Debug, Default, PartialEq, Eq)]
 pub struct Place {
     pub handles: usize,
@@ -90,7 +90,7 @@ pub struct Place {
     pub received: [usize; 4],
 }
 
-/// The lists that a caller lends; the words are used by a session only.
+/// The lists that a caller lends to be written; only a session is lent words.
 #[derive(Clone, Debug, PartialEq, Eq)]
 pub struct Lent {
     pub words: Vec<u32>,
@@ -100,14 +100,14 @@ pub struct Lent {
     pub received: [Vec<u32>; 4],
 }
 
-/// What a command reads and never writes.
+/// The lists that are only read.
 pub struct Bodies<'w> {
     pub inputs: &'w [u32],
     /// Provider and miners 1 to 3.
     pub tapes: [&'w [u32]; 4],
 }
 
-/// A command's answer: 0 or the refusal number, the place record, and the opened word.
+/// Specification: Answers.
 #[derive(Clone, Copy, Debug, PartialEq, Eq)]
 pub struct Answer {
     pub number: u32,
@@ -115,7 +115,7 @@ pub struct Answer {
     pub opened: u32,
 }
 
-/// One command; a refused one changes nothing.
+/// One command; a refused one writes nothing. Specification: Accepted commands.
 pub fn run_command(command: [u32; 3], bodies: &Bodies, place: Place, lent: &mut Lent) -> Answer {
     let number = refusal(command, bodies, place, lent);
     let opened = 0;
@@ -133,13 +133,13 @@ pub fn run_command(command: [u32; 3], bodies: &Bodies, place: Place, lent: &mut 
 
 // ---- refusals
 
-/// "Share tables and kind list differ in length" (number 4).
+/// Whether share tables and kind list are not of one length, for number 4.
 pub fn lengths_differ(lent: &Lent) -> bool {
     let length = lent.kinds.len();
     lent.shares.iter().any(|table| table.len() != length)
 }
 
-/// Number 4 on a command.
+/// Whether number 4 applies to a command.
 fn badly_lent(bodies: &Bodies, place: Place, lent: &Lent) -> bool {
     let beyond = place.handles > lent.kinds.len()
         || place.inputs > bodies.inputs.len()
@@ -152,7 +152,8 @@ fn badly_lent(bodies: &Bodies, place: Place, lent: &Lent) -> bool {
             .any(|&kind| kind != RING && kind != BIT_WORD)
 }
 
-/// "The lowest number that applies is given": numbers 4 to 13 in order, 0 if none applies.
+/// The lowest of numbers 4 to 13 that applies, 0 if none does.
+/// Specification: Table of refusals; Order of refusals.
 fn refusal(command: [u32; 3], bodies: &Bodies, place: Place, lent: &Lent) -> u32 {
     if badly_lent(bodies, place, lent) {
         return 4;
@@ -179,7 +180,7 @@ fn refusal(command: [u32; 3], bodies: &Bodies, place: Place, lent: &Lent) -> u32
     0
 }
 
-/// Numbers 6 to 9, each looked for in both fields before the next.
+/// Numbers 6 to 9, each in both fields before the next.
 fn field_refusal(row: &Row, words: [u32; 2], place: Place, lent: &Lent) -> u32 {
     let any = |breaks: &dyn Fn(Field, u32) -> bool| (0..2).any(|i| breaks(row.fields[i], words[i]));
     let filled = |handle: u32| handle != 0 && handle as usize <= place.handles;
@@ -204,7 +205,7 @@ fn field_refusal(row: &Row, words: [u32; 2], place: Place, lent: &Lent) -> u32 {
 
 // ---- accepted commands
 
-/// The parties with their tapes from the place on, nothing received yet.
+/// The parties with the rest of their tapes; nothing is received yet.
 fn parties_at<'w>(bodies: &Bodies<'w>, place: Place) -> Parties<'w> {
     let [provider, one, two, three] = [0, 1, 2, 3].map(|i| Party {
         tape: &bodies.tapes[i][place.drawn[i]..],
@@ -217,7 +218,7 @@ fn parties_at<'w>(bodies: &Bodies<'w>, place: Place) -> Parties<'w> {
     }
 }
 
-/// Runs the row's protocol; answers the new value's shares, or the shares that were opened.
+/// Runs the command's protocol; answers the shares of the new value, or those that were opened.
 fn run_steps(
     parties: &mut Parties,
     [code, a, b]: [u32; 3],
@@ -243,8 +244,8 @@ fn run_steps(
     }
 }
 
-/// "An accepted command writes the new handle's entries and the new received words and no
-/// other word."
+/// Writes the new value's entries and the received words, and moves the place record on.
+/// Specification: Accepted commands.
 fn accept(
     command: [u32; 3],
     parties: &Parties,

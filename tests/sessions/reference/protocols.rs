@@ -1,12 +1,10 @@
-//! The ring and bit protocols as the papers' steps name them, on explicit parties and messages.
-//!
-//! Source documents: 000 (report T-4-10, algorithms 1 and 3 to 5) and 001 (sharing, resharing);
-//! document 01, "The steps", decides the order of draws and received words.
+//! The protocols step by step, on parties that draw and receive words.
+//! Specification: Order of words. The algorithms are those of report T-4-10.
 
 /// One share for each of the miners 1 to 3.
 pub type Shares = [u32; 3];
 
-/// A party while one command runs: its tape from its place on, and what reaches it.
+/// A party during one command: the rest of its tape, and the words that it receives.
 #[derive(Default)]
 pub struct Party<'t> {
     pub tape: &'t [u32],
@@ -15,14 +13,14 @@ pub struct Party<'t> {
 }
 
 impl Party<'_> {
-    /// Takes the next word; a command that would find its tape spent was refused before.
+    /// The next word of the tape; it is there, else the command was refused before.
     fn draw(&mut self) -> u32 {
         let word = self.tape[self.drawn];
         self.drawn += 1;
         word
     }
 
-    /// "A random bit is the lowest bit of one drawn word."
+    /// Specification: Draws.
     fn draw_bit(&mut self) -> u32 {
         self.draw() & 1
     }
@@ -41,14 +39,14 @@ pub struct Parties<'t> {
 }
 
 impl Parties<'_> {
-    /// Every miner draws a word and sends it to the next; answers the drawn words.
+    /// Each miner draws a word and sends it to the next; answers the drawn words.
     fn draw_and_send_on(&mut self) -> Shares {
         let drawn = [0, 1, 2].map(|i| self.miners[i].draw());
         self.send_on(drawn);
         drawn
     }
 
-    /// Every miner i sends `words[i]` to the next miner.
+    /// Each miner sends its word to the next.
     fn send_on(&mut self, words: Shares) {
         for i in 0..3 {
             self.miners[(i + 1) % 3].receive(words[i]);
@@ -56,29 +54,29 @@ impl Parties<'_> {
     }
 }
 
-/// What each miner has from the one before it: "before 1 comes 3".
+/// For each miner the previous miner's word. Specification: Parties.
 fn previous(words: Shares) -> Shares {
     [words[2], words[0], words[1]]
 }
 
-/// Combines share by share.
+/// Combines the shares of each miner.
 pub fn each(a: Shares, b: Shares, combine: fn(u32, u32) -> u32) -> Shares {
     [0, 1, 2].map(|i| combine(a[i], b[i]))
 }
 
-/// The word that ring shares give.
+/// The word that ring shares combine to. Specification: Shares.
 pub fn ring_word(shares: Shares) -> u32 {
     shares.into_iter().fold(0, u32::wrapping_add)
 }
 
-/// The word that bit shares give.
+/// The word that bit shares combine to. Specification: Shares.
 pub fn bit_word(shares: Shares) -> u32 {
     shares[0] ^ shares[1] ^ shares[2]
 }
 
 // ---- ring protocols
 
-/// Store (001): the provider draws s1, s2; s3 = v - s1 - s2; each miner receives its share.
+/// Specification: Store.
 pub fn store(parties: &mut Parties, v: u32) -> Shares {
     let s1 = parties.provider.draw();
     let s2 = parties.provider.draw();
@@ -89,19 +87,19 @@ pub fn store(parties: &mut Parties, v: u32) -> Shares {
     shares
 }
 
-/// Ring masking: own mask added, the previous miner's mask taken off.
+/// Ring masking: own mask added, the previous miner's subtracted.
 fn ring_mask(shares: Shares, masks: Shares) -> Shares {
     let added = each(shares, masks, u32::wrapping_add);
     each(added, previous(masks), u32::wrapping_sub)
 }
 
-/// Reshare (001): miner i draws r_i, sends it on, keeps s_i + r_i - r_(i-1).
+/// Specification: Reshare.
 pub fn reshare(parties: &mut Parties, s: Shares) -> Shares {
     let r = parties.draw_and_send_on();
     ring_mask(s, r)
 }
 
-/// Open: "reshare, but the fresh shares go to the controller, in miner order".
+/// Specification: Open.
 pub fn open(parties: &mut Parties, s: Shares) -> Shares {
     let fresh = reshare(parties, s);
     for share in fresh {
@@ -110,7 +108,7 @@ pub fn open(parties: &mut Parties, s: Shares) -> Shares {
     fresh
 }
 
-/// Multiply (000, algorithm 1).
+/// Specification: Multiply; report T-4-10, algorithm 1.
 pub fn multiply(parties: &mut Parties, u: Shares, v: Shares) -> Shares {
     let r = parties.draw_and_send_on();
     let s = parties.draw_and_send_on();
@@ -125,14 +123,14 @@ pub fn multiply(parties: &mut Parties, u: Shares, v: Shares) -> Shares {
     each(sum, other_back, u32::wrapping_add)
 }
 
-/// A public constant: "Code 4 changes miner 1's share only."
+/// The constant is added once, to miner 1's share. Specification: Local commands.
 pub fn add_constant(u: Shares, constant: u32) -> Shares {
     [u[0].wrapping_add(constant), u[1], u[2]]
 }
 
 // ---- bit protocols
 
-/// Bit (000, algorithm 3) on one position of bit shares.
+/// Specification: Bit; report T-4-10, algorithm 3.
 pub fn bit(parties: &mut Parties, words: Shares, position: u32) -> Shares {
     let u = words.map(|word| (word >> position) & 1);
     let [one, two, three] = &mut parties.miners;
@@ -156,19 +154,19 @@ pub fn bit(parties: &mut Parties, words: Shares, position: u32) -> Shares {
     }
 }
 
-/// Bit masking: own and previous mask by exclusive or (000, lines 14 and 15).
+/// Bit masking, with own and previous mask; report T-4-10, algorithm 4, lines 14 and 15.
 fn bit_mask(shares: Shares, masks: Shares) -> Shares {
     let own = each(shares, masks, |share, mask| share ^ mask);
     each(own, previous(masks), |share, mask| share ^ mask)
 }
 
-/// A shared "and" from own and previous shares (000, line 22).
+/// Specification: Shared and; report T-4-10, algorithm 4, line 22.
 fn and(a: Shares, b: Shares) -> Shares {
     let (before_a, before_b) = (previous(a), previous(b));
     [0, 1, 2].map(|i| (a[i] & b[i]) ^ (a[i] & before_b[i]) ^ (before_a[i] & b[i]))
 }
 
-/// At each position that `source` names one for, the bit of that position; 0 elsewhere.
+/// At each position that has a source, the source's bit; 0 elsewhere.
 fn gather(word: u32, source: impl Fn(u32) -> Option<u32>) -> u32 {
     (0..32).fold(0, |gathered, position| match source(position) {
         Some(from) => gathered | ((word >> from) & 1) << position,
@@ -176,25 +174,26 @@ fn gather(word: u32, source: impl Fn(u32) -> Option<u32>) -> u32 {
     })
 }
 
-/// "The highest lower position whose bit k is clear and whose higher bits agree", for the
-/// positions whose own bit k is set (000, lines 18 to 21: 2^k + 2^(k+1) m - 1).
+/// The source of a position in carry round k, if its bit k is set. Specification: Carry rounds.
+/// Report T-4-10, algorithm 4, lines 18 to 21: 2^k + 2^(k+1) m - 1.
 fn carry_source(k: u32, position: u32) -> Option<u32> {
     let block = position >> (k + 1) << (k + 1);
     ((position >> k) & 1 == 1).then(|| block + (1 << k) - 1)
 }
 
-/// "Position 2^(k+1) m takes the 'and' with position 2^(k+1) m + 2^k" (000, line 16).
+/// The source of a position in fold round k. Specification: Fold rounds.
+/// Report T-4-10, algorithm 5, line 16.
 fn fold_source(k: u32, position: u32) -> Option<u32> {
     (position % (1 << (k + 1)) == 0).then(|| position + (1 << k))
 }
 
-/// The shared "and" at the positions that take something; the others keep their shares.
+/// The shared "and" at the positions in `taken`; the others keep their shares.
 fn and_where_taken(own: Shares, other: Shares, taken: u32) -> Shares {
     let product = and(own, other);
     [0, 1, 2].map(|i| (own[i] & !taken) | (product[i] & taken))
 }
 
-/// The five carry rounds of Bits (000, algorithm 4, lines 13 to 21); answers the shares of s.
+/// Answers the shares of s. Specification: Carry rounds; report T-4-10, algorithm 4, lines 13 to 21.
 pub fn carry_rounds(
     parties: &mut Parties,
     masks: (Shares, Shares),
@@ -207,20 +206,21 @@ pub fn carry_rounds(
         s = bit_mask(s, t);
         parties.send_on(p);
         parties.send_on(s);
-        // "New q, t are drawn and sent after round 4 too, as in 000, and stay unused."
+        // After round 4 too, where nothing uses them.
         q = parties.draw_and_send_on();
         t = parties.draw_and_send_on();
         let source = |position| carry_source(k, position);
         let lower_s = s.map(|word| gather(word, source));
         let lower_p = p.map(|word| gather(word, source));
-        // s before p: the new s needs the old p.
+        // s before p: the new s depends on the old p.
         s = each(s, and(p, lower_s), |share, carry| share ^ carry);
         p = and_where_taken(p, lower_p, gather(u32::MAX, source));
     }
     s
 }
 
-/// Bits (000, algorithm 4, lines 1 to 27): ring shares to bit shares of the same word.
+/// Ring shares to bit shares of the same word. Specification: Bits; report T-4-10, algorithm 4,
+/// lines 1 to 27.
 pub fn bits(parties: &mut Parties, u: Shares) -> Shares {
     let [one, two, three] = &mut parties.miners;
     let r = one.draw();
@@ -244,7 +244,7 @@ pub fn bits(parties: &mut Parties, u: Shares) -> Shares {
     each(s, p, |carry, sum| (carry << 1) ^ sum)
 }
 
-/// The five fold rounds of Equal (000, algorithm 5, lines 11 to 16); answers the shares of p.
+/// Answers the shares of p. Specification: Fold rounds; report T-4-10, algorithm 5, lines 11 to 16.
 pub fn fold_rounds(parties: &mut Parties, mut q: Shares, mut p: Shares) -> Shares {
     for k in 0..5 {
         p = bit_mask(p, q);
@@ -257,7 +257,7 @@ pub fn fold_rounds(parties: &mut Parties, mut q: Shares, mut p: Shares) -> Share
     p
 }
 
-/// Equal (000, algorithm 5).
+/// Specification: Equal; report T-4-10, algorithm 5.
 pub fn equal(parties: &mut Parties, u: Shares, v: Shares) -> Shares {
     let difference = each(u, v, u32::wrapping_sub);
     let [one, two, three] = &mut parties.miners;
@@ -272,7 +272,7 @@ pub fn equal(parties: &mut Parties, u: Shares, v: Shares) -> Shares {
     bit(parties, p, 0)
 }
 
-/// Below: "subtract, bits, then Bit on position 31, with no handle for the stages between".
+/// Specification: Below.
 pub fn below(parties: &mut Parties, u: Shares, v: Shares) -> Shares {
     let words = bits(parties, each(u, v, u32::wrapping_sub));
     bit(parties, words, 31)

@@ -1,4 +1,4 @@
--- What the code's steps come to: a command from its row on.
+-- The code's steps from a command's row on give the command's outcome.
 use Prim.Native.Nat.{ℕ, ◌+◌, ◌-◌, ◌≤◌, ◌<◌, ◌^◌}
 use mathlib.Core.Path.{◌≡◌, refl, sym, ap, ◌∙◌}
 use mathlib.Core.List.{List, ◌++◌}
@@ -31,9 +31,9 @@ use Rattle.machine.proofs.Laws.Rows.{refusal_number-positive}
 use Rattle.machine.proofs.Laws.Supply.{FollowsVerdict, with_shortage, without_shortage, f, g, drawn, outcome_follows_verdict}
 use Rattle.machine.proofs.Laws.Lawful.{lawful}
 
--- ---- words for every party
+-- ---- the received lists of all parties
 
--- the unfilled part of each list, as b, behind the filled part
+-- each list, with its filled part as in l and its unfilled part as in b
 abbrev behind : Received → Lists → Lists → Lists
 behind k l b =
     lists (take k.one l.one ++ b.one) (take k.two l.two ++ b.two) (take k.three l.three ++ b.three) (take k.controller l.controller ++ b.controller)
@@ -64,12 +64,12 @@ counted_fits p x f =
 
 -- ---- after a protocol
 
--- what a protocol lacks has the same number as what the machine then refuses with
+-- the number of a shortage is that of the refusal
 shortage_number-refusal : (s : Shortage) → shortage_number s ≡ table.refusal_number (table.shortage_refusal s)
 shortage_number-refusal TapeSpent = refl
 shortage_number-refusal ListFull = refl
 
--- where it is done, its place record can be moved on by the row
+-- if the protocol is done, the place record moved on by the row fits 64 bits
 pub fits_if_done : (x : Code) (c : Command) (p : Place) (l : Lent) → IsReady x c p l → length l.tables.one < 2 ^ 64 → length l.inputs < 2 ^ 64
     → length l.received.one < 2 ^ 64 → length l.received.two < 2 ^ 64 → length l.received.three < 2 ^ 64 → length l.received.controller < 2 ^ 64
     → {r : Row} {o : Outcome} {b : Lists} → r ≡ row 5 x → FollowsVerdict x c p l o b → o.number ≡ 0 → Fits o.place r
@@ -86,7 +86,7 @@ fits_if_done x c p l ready h i j k m n {r} {o} er (without_shortage e fit is) z 
       controller = omega (arith, n, fit controller);
     })
 
--- where something is with_shortage nothing changes
+-- after a shortage nothing changes
 finish_lacking : (x : Row) (p : Place) (t : Tables) (kinds : List ℕ) (s : Shortage)
     → outcome_after_protocol x p (failure (shortage_number s) p) t kinds ≡ store_outcome (answer (table.refusal_number (table.shortage_refusal s)) p 0) (table_entries t kinds)
 finish_lacking x p t kinds TapeSpent = refl
@@ -100,7 +100,7 @@ is_accepted : (x : Code) (c : Command) (p : Place) (l : Lent) → let y = (f x c
 unfolding accepted_outcome with_new_entry
 is_accepted x c p l = refl
 
--- refused, nothing changes; done, the words are in the lists and the shares are the new handle's
+-- the outcome of the command, after a shortage and after a protocol that is done
 stored_command_outcome : (x : Code) (c : Command) (p : Place) (l : Lent) → {o : Outcome} {b : Lists} → FollowsVerdict x c p l o b → let e = outcome_after_protocol (row 5 x) p o l.tables l.kinds in
     command_outcome e.answer (lent_lists e.stored.tables e.stored.kinds l.inputs l.tapes (behind p.received l.received b))
     ≡ verdict_outcome 5 (supply_verdict (row 5 x) p (sizes l) (Accepted x)) c p l
@@ -121,7 +121,7 @@ stored_command_outcome x c p l {o} {b} (without_shortage e fit d) =
     ∙ is_accepted x c p l
     ∙ sym (ap (λ (v : Verdict). verdict_outcome 5 v c p l) e)
 
--- the lists as the code lends their unfilled parts, and as it has them back
+-- the unfilled parts that the code lends, and the lists with these parts returned
 abbrev lent_part : Received → Lists → Lists
 lent_part k l =
     lists (take (length l.one - k.one) (drop k.one l.one)) (take (length l.two - k.two) (drop k.two l.two))

@@ -1,4 +1,4 @@
--- What an accepted command has passed.
+-- An accepted command has passed every test.
 use Prim.Native.Nat.{ℕ, ◌+◌, ◌-◌, ◌≤◌}
 use mathlib.Core.Path.{◌≡◌, refl, ap, subst}
 use mathlib.Core.Bool.{Bool, true, false, ◌&&◌}
@@ -25,7 +25,7 @@ use Rattle.machine.specs.Verdict.{Verdict, Accepted, Refused, test, CheckResult,
 
 -- ---- tests
 
--- a refusal is no acceptance
+-- a refused command is not accepted
 refused_not : {r : Refusal} {x : Code} → Refused r ≡ Accepted x → ⊥
 refused_not e = subst tells e tt
   where
@@ -45,16 +45,16 @@ test_passed : (r : Refusal) (b : Bool) (v : Verdict) {x : Code} → test r b v �
 test_passed r true v e = (refl, e)
 test_passed r false v e = absurd (refused_not e)
 
--- a check that fails is not passed
+-- a result that is a refusal is not `pass`
 pub ok_not : {r : Refusal} → let e : CheckResult = Err r in ¬ (e ≡ pass)
 ok_not e = cc
 
--- checks that lead to an acceptance all hold
+-- if the verdict after several tests is acceptance, they all hold
 all_held : (r : CheckResult) (next : Verdict) {x : Code} → after_checks r next ≡ Accepted x → (r ≡ pass) × (next ≡ Accepted x)
 all_held (Ok tt) next e = (refl, e)
 all_held (Err r) next e = absurd (refused_not e)
 
--- six checks that are passed all hold
+-- if six tests are passed, each of them holds
 checks_passed : (a b c d e f : Bool)
     → check FieldNotZero a (check HandleNotFilled b (check WrongKind c (check PositionOutside d (check TablesFull e (check InputsUsed f pass))))) ≡ pass
     → (a ≡ true) × (b ≡ true) × (c ≡ true) × (d ≡ true) × (e ≡ true) × (f ≡ true)
@@ -66,7 +66,7 @@ checks_passed true true false d e f z = absurd (ok_not z)
 checks_passed true false c d e f z = absurd (ok_not z)
 checks_passed false b c d e f z = absurd (ok_not z)
 
--- the tests 6 to 11, where none refuses
+-- if none of the tests 6 to 11 refuses, each of them holds
 pub refusal_passed : (n : ℕ) (x : Row) (c : Command) (p : Place) (entries inputs : ℕ) (kinds : List ℕ) → row_checks n x c p entries inputs kinds ≡ pass
     → (unused_zero x c ≡ true) × (handles_filled x p c ≡ true) × (kinds_fit x kinds c ≡ true) × (in_word n x c ≡ true) × (tables_have x p entries ≡ true)
     × (inputs_have x p inputs ≡ true)
@@ -137,11 +137,11 @@ all_passed n x c p z kinds e =
 
 -- ---- the room that is left, as sums
 
--- of y words x are used, and z more are there
+-- if x of y words are used and z are left, x + z are at most y
 pub room : (x y z : ℕ) → leb x y ≡ true → leb z (y - x) ≡ true → x + z ≤ y
 room x y z e f = omega (arith, leb-true x y e, leb-true z (y - x) f)
 
--- the places lie within their lists
+-- if refusal 4 does not apply, each count is at most the length of its list
 pub places_within : (p : Place) (z : Sizes) (kinds : List ℕ) → is_sound p z kinds ≡ true
     → (leb p.handles z.one ≡ true) × (leb p.inputs z.inputs ≡ true)
     × (every_party (λ i. leb (count i p.drawn) (count i z.tapes)) ≡ true) × (every_receiver (λ r. leb (count_for r p.received) (count_for r z.received)) ≡ true)

@@ -1,4 +1,4 @@
--- One command: the shares after it combine to what the register machine holds.
+-- Agreement of one command: the shares after it combine to the registers of the register machine.
 use Prim.Native.Nat.{ℕ, zero, suc, ◌+◌, ◌≤◌, ◌<◌}
 use mathlib.Core.Path.{◌≡◌, refl, sym, ap, ap₂, ◌∙◌, subst, subst₂}
 use mathlib.Core.Bool.{Bool, true, false, cond, ◌&&◌, and-false}
@@ -53,13 +53,13 @@ named_start : (n : ℕ) (p : Place) (l : Lent) (h : ℕ) → IsFilled p h → re
 unfolding starting_registers
 named_start n p l h f = get_or-up_to p.handles (register_of n l) (register 0 0) h f.0 f.1
 
--- a register that is the one of handle h holds what the shares of h give
+-- the register of handle h has the kind of h and the value of its shares
 register_combines : (n : ℕ) (l : Lent) (h : ℕ) (r : Register) → register_of n l h ≡ r
     → (entry l.kinds h ≡ r.kind) × (combined_word (modulus n) r.kind (shares_at l.tables h) ≡ r.word)
 register_combines n l h r e =
     (ap (λ (q : Register). q.kind) e, subst (λ (q : Register). combined_word (modulus n) q.kind (shares_at l.tables h) ≡ q.word) e refl)
 
--- a field of a command that has passed, which names a handle: its shares are words, and combine to its register's word
+-- if a field names a filled handle, its shares are words, and combine to its register's word
 operand_words : (n : ℕ) (p : Place) (l : Lent) (u : Use) (h : ℕ) → LentAreWords (modulus n) p l → meets u true (is_filled p h) true ≡ true
     → IfHandle u (AreWordsOf (modulus n) (shares_at l.tables h))
 operand_words n p l Unused h w e = tt
@@ -83,7 +83,7 @@ pub open_names : (n : ℕ) (c : Command) (p : Place) (l : Lent) → Passed n Ope
 open_names n c p l a =
     operand_word n p l Handle c.a 1 (both (is_filled p c.a) true a.seven).0 (both (eqb (entry l.kinds c.a) 1) true a.eight).0
 
--- ---- one register more
+-- ---- one more register
 
 register-same : (n : ℕ) {k k' : ℕ} {f g : Miner → ℕ} → k ≡ k' → ((i : Miner) → f i ≡ g i)
     → register (combined_word (modulus n) k (each f)) k ≡ register (combined_word (modulus n) k' (each g)) k'
@@ -114,7 +114,7 @@ module _ (n : ℕ) (l : Lent) (h : ℕ) (s : Shares) (k : ℕ) (r : Lists) where
 -- ---- an accepted command
 
 module _ (n : ℕ) (c : Command) (p : Place) (l : Lent) (x : Code) where
-  -- what the command takes, and the next words of the tapes
+  -- what the command works on, and the next words of the tapes
   abbrev pub takes : Arguments
   takes = arguments l.tables l.inputs p c
 
@@ -122,7 +122,7 @@ module _ (n : ℕ) (c : Command) (p : Place) (l : Lent) (x : Code) where
   draws = block (protocol n x c.b).draws p l.tapes
 
   module _ (b : Tapes) where
-    -- what it makes, sends and leaves on a block of words
+    -- the shares, the sent words and the lent lists that it gives from a block of words
     abbrev pub makes : Shares
     makes = (protocol n x c.b).result takes b
 
@@ -158,7 +158,7 @@ module _ (n : ℕ) (c : Command) (p : Place) (l : Lent) (x : Code) where
     fits : p.handles + (row n x).values ≤ length l.kinds
     fits = omega (arith, (has_room a).handles, same one)
 
-    -- the words sent stand behind those that each list held
+    -- the sent words are behind those that each list held
     pub appended : (b : Tapes) (r : Receiver) → Appended (list r l.received) (count_for r p.received) (list r (sends b)) (list r (leaves b).received)
     appended b r =
         list-with_words r l.received p (sends b)
@@ -196,7 +196,7 @@ module _ (n : ℕ) (c : Command) (p : Place) (l : Lent) (x : Code) where
             (w.received r) (((lawful x).counted n c.b).delivered takes given_are_words b h r).below);
       }
 
-      -- the new shares give the register machine's value
+      -- the new shares combine to the register machine's value
       new_word : combined_word (modulus n) (kind_number (row n x).kind) (makes b)
           ≡ value n x (register_at (starting_registers n p l).held c.a).word (register_at (starting_registers n p l).held c.b).word c.b (get_or l.inputs p.inputs 0)
       new_word =
@@ -207,7 +207,7 @@ module _ (n : ℕ) (c : Command) (p : Place) (l : Lent) (x : Code) where
           ∙ (lawful x).same_value n _ _ _ _ c.b (get_or l.inputs p.inputs 0) (operand_word n p l y.a c.a (kind_number y.operands) filled_fields.0 g.0)
           (operand_word n p l y.b c.b (kind_number y.operands) filled_fields.1 g.1)
 
-      -- the registers that the shares stand for are those of the register machine after the command
+      -- the registers of the shares after the command are those of the register machine after it
       pub start_left : starting_registers n (with_row p (row n x)) (leaves b) ≡ next_registers n (Accepted x) c l.inputs (starting_registers n p l)
       unfolding starting_registers
       start_left = λ i. registers (held i) (with_row p (row n x))
@@ -220,7 +220,7 @@ module _ (n : ℕ) (c : Command) (p : Place) (l : Lent) (x : Code) where
 
 -- ---- a command, accepted or refused
 
--- what it leaves as it was; the laws `-by` go by the verdict
+-- what a command leaves unchanged; the laws that end in `by` are by cases of the verdict
 record Kept (n : ℕ) (p : Place) (l : Lent) (o : CommandOutcome) : Type 0 where
   tables_kept : (i : Miner) (k : ℕ) → ¬ IsNew p o.answer.place k → get_or (table i o.lent.tables) k 0 ≡ get_or (table i l.tables) k 0
   kinds_kept : (k : ℕ) → ¬ IsNew p o.answer.place k → get_or o.lent.kinds k 0 ≡ get_or l.kinds k 0
@@ -248,7 +248,7 @@ module _ (n : ℕ) (c : Command) (p : Place) (l : Lent) where
   pub code_opens : (x : Code) → decision ≡ Accepted x → eqb c.code 11 ≡ opens_value (row n x)
   code_opens x e = opens-at_11 n c.code x (has_passed x e).known
 
-  -- a command that its code word names, answered 0
+  -- a command that answers 0 is accepted, as the command of its code
   accepted_by : (v : Verdict) → decision ≡ v → (x : Code) → code_named c.code ≡ Ok x → verdict_number v ≡ 0 → decision ≡ Accepted x
   accepted_by (Accepted y) e x f z = e ∙ ap Accepted (same_code (has_passed y e).known f)
   accepted_by (Refused r) e x f z = absurd (omega (arith, z, refusal_number-positive r))
@@ -257,7 +257,7 @@ module _ (n : ℕ) (c : Command) (p : Place) (l : Lent) where
   unfolding command
   is_accepted x f z = accepted_by decision refl x f (sym (number-decided decision) ∙ z)
 
-  -- it moves the place record on by its row
+  -- an accepted command moves the place record on by its row
   moved_by : (x : Code) → decision ≡ Accepted x → PlaceMoved n c p l x
   unfolding accepted_outcome
   moved_by x e =
@@ -269,13 +269,13 @@ module _ (n : ℕ) (c : Command) (p : Place) (l : Lent) where
         received = λ r. ap (λ (q : Place). count_for r q.received) q ∙ due-moved r p (row n x);
       }
 
-  -- each list has the words of its protocol more
+  -- each received list has the words of its protocol behind the earlier ones
   appended_by : (x : Code) → decision ≡ Accepted x → (r : Receiver)
       → Appended (list r l.received) (count_for r p.received) (list r (sends n c p l x (draws n c p l x))) (list r (command n c p l).lent.received)
   unfolding accepted_outcome
   appended_by x e r = ap (λ (o : CommandOutcome). list r o.lent.received) (command_accepts x e) ∙ appended n c p l x (has_passed x e) (draws n c p l x) r
 
-  -- and what it draws and delivers is its row's
+  -- it draws and sends as many words as its row says
   pub counted_by : (x : Code) → decision ≡ Accepted x → Counts n c p l x
   counted_by x e = let f = (lawful x).counted n c.b in record {
     drawn = f.drawn;
@@ -305,7 +305,7 @@ module _ (n : ℕ) (c : Command) (p : Place) (l : Lent) where
     }
     kept_by (Refused r) e = record { tables_kept = λ i k h. refl; kinds_kept = λ k h. refl; inputs_kept = refl; tapes_kept = refl; sizes_kept = refl; words = w }
 
-    -- the new handle, where a value is due
+    -- the new handle, if there is a new value
     new_handle : (x : Code) → decision ≡ Accepted x → (row n x).values ≡ 1 → NewHandle n c p l x
     unfolding accepted_outcome
     new_handle x e one_due =
@@ -372,7 +372,7 @@ module _ (n : ℕ) (c : Command) (p : Place) (l : Lent) where
     unfolding command
     shown-after = shown_by decision refl ∙ ap (λ (v : Verdict). opened_register n v c (starting_registers n p l)) (sym (judge-same n c p l))
 
--- the protocol of an accepted command is done, wherever the other counts of the place record stand
+-- the protocol of an accepted command is done, whatever the other counts of the place record are
 pub never_spent : (n : ℕ) (c : Command) (p : Place) (l : Lent) → NeverSpent n c p l
 never_spent n c p l x f z q same =
     performs n x c.b (arguments l.tables l.inputs p c) p q l.tapes same (never_lacks n x c p l (has_passed n c p l x (is_accepted n c p l x f z)))

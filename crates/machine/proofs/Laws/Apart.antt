@@ -1,4 +1,4 @@
--- Every run is a run by parties apart.
+-- Every run has four programs that give it; Specification: Parties apart.
 use Rattle.std.proofs.Common.{◌≡◌, ℕ, List, take, refl, sym, ap, subst, ◌∙◌}
 use Rattle.protocols.specs.declared.place.Party.{Party}
 use Rattle.protocols.specs.declared.place.Party.TheVariants.{Provider, One, Two, Three}
@@ -25,14 +25,14 @@ pub mod Words
 pub mod View
 pub mod Mixed
 
--- the tapes apart, a party has the same
+-- a party's own part does not depend on the tapes
 own_part-with_tapes : (i : Party) (t : Tapes) (l : Lent) → own_part i l ≡ own_part i (with_tapes t l)
 own_part-with_tapes Provider t l = refl
 own_part-with_tapes One t l = refl
 own_part-with_tapes Two t l = refl
 own_part-with_tapes Three t l = refl
 
--- what the four come to, where they are connected, each comes to by itself, and no other words agree with the four
+-- each party by itself gives what the connected four give, and no other words agree with the four
 abbrev Settled : Programs → Place → Lent → Connection (List ℕ) → Type 0
 Settled P p l c =
     ((i : Party) → alone (List ℕ) P.rounds i c.sent (process_of P p l i) (for_party i c.received)
@@ -45,7 +45,7 @@ settled P p l c e = let law = by_itself P.rounds (process_of P p l) in subst (Se
 
 -- ---- past refusals
 
--- what each party does, one command after the other
+-- the programs: one command after the other
 abbrev programs : ℕ → List Command → Place → Sizes → List ℕ → Programs
 programs n cs p z k =
     let F = commands_apart n cs p z k in
@@ -89,7 +89,7 @@ comes_to n cs p z k l e f =
 run_apart : (n : ℕ) (cs : List Command) (p : Place) (z : Sizes) (k : List ℕ) → HasPrograms (run n cs) p z k
 run_apart n cs p z k = (programs n cs p z k, comes_to n cs p z k)
 
--- ---- up to the first refused command, which is public
+-- ---- up to the first refusal, which is public
 
 pub run_apart_to_refusal : (n : ℕ) (cs : List Command) (p : Place) (z : Sizes) (k : List ℕ)
     → HasPrograms (run_to_refusal n cs) p z k

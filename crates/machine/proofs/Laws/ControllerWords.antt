@@ -1,4 +1,4 @@
--- What the controller receives in a run that stops at the first refused command adds up, in threes, to the words opened.
+-- In a run up to the first refusal, each three words that the controller receives have an opened word as their sum.
 use Prim.Native.Nat.{ℕ, ◌+◌, ◌≤◌}
 use mathlib.Core.Path.{◌≡◌, refl, sym, ap, ap₂, ◌∙◌, subst}
 use mathlib.Core.Bool.{Bool, true, false, cond, ◌&&◌, and-false}
@@ -28,7 +28,7 @@ use Rattle.machine.proofs.Laws.ToRefusal.{no_answers, opened-first}
 use Rattle.machine.proofs.Laws.Agree.{takes, draws, makes, sends, appended, has_passed, code_opens}
 use Rattle.machine.proofs.Laws.Lawful.{lawful}
 
--- the controller's list has the words w more, and its count keeps within it
+-- the controller's list has gained the words w, and its count is at most its length
 record Gained (p : Place) (l : Lent) (q : Place) (r : Lent) (w : List ℕ) : Type 0 where
   received : received_words q r controller ≡ received_words p l controller ++ w
   within : p.received.controller ≤ length l.received.controller → q.received.controller ≤ length r.received.controller
@@ -44,7 +44,7 @@ none : (s : List ℕ) → length s ≡ 0 → s ≡ []
 none [] e = refl
 none (x ∷ s) e = absurd (omega arith)
 
--- an open sends the controller its result, in miner order
+-- open sends its result to the controller, in the order of the miners
 hands : (n : ℕ) (c : Command) (p : Place) (l : Lent) (x : Code) → x ≡ Open
     → (sends n c p l x (draws n c p l x)).controller ≡ in_order (makes n c p l x (draws n c p l x))
 hands n c p l x e =
@@ -79,7 +79,7 @@ module _ (n : ℕ) (c : Command) (p : Place) (l : Lent) where
           within = λ h. omega (arith, length-sets held at sent, (has_room a).received controller);
         }
 
-    -- the words that it opens, and then those that are opened after it
+    -- its opened word, then those after it
     adds_up : (w : List ℕ) → let o = (verdict_outcome n (Accepted x) c p l).answer in
         cond (is_opened c o) (o.opened ∷ []) [] ++ sums_in_threes (modulus n) w ≡ sums_in_threes (modulus n) (sent ++ w)
     unfolding accepted_outcome sums_in_threes
@@ -98,7 +98,7 @@ module _ (n : ℕ) (c : Command) (p : Place) (l : Lent) where
 
   -- ---- any command
 
-  -- it has the words s for the controller
+  -- it sends the words s to the controller
   record Step (o : CommandOutcome) : Type 0 where
     s : List ℕ
     gained : Gained p l o.answer.place o.lent s

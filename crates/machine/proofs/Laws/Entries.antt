@@ -1,4 +1,4 @@
--- Lent lists: entries by handle, one that is written, words that are appended and words that are drawn.
+-- Lent lists: entries of handles, an entry that is written, and words that are appended or drawn.
 use Prim.Native.Nat.{ℕ, zero, suc, ◌+◌, ◌-◌, ◌≤◌, ◌<◌}
 use mathlib.Core.Path.{◌≡◌, refl, sym, ap, ap₂, ◌∙◌, subst}
 use mathlib.Core.List.{List, [], ◌∷◌, ◌++◌, map, map-append, append_assoc}
@@ -126,14 +126,14 @@ module _ (m : ℕ) where
   shares_are_words p l h k f b two = below-filled l.tables.two p.handles (h - 1) k (omega (arith, f)) (b two)
   shares_are_words p l h k f b three = below-filled l.tables.three p.handles (h - 1) k (omega (arith, f)) (b three)
 
-  -- one entry more is filled, or none
+  -- after an entry is filled, or none
   pub below_put : (v : ℕ) (l : List ℕ) (k w : ℕ) → v ≤ 1 → k + v ≤ length l → AllBelow m (take k l) → w < m → AllBelow m (take (k + v) (with_entry v l k w))
   below_put zero l k w i h b c = subst (λ (j : ℕ). AllBelow m (take j l)) (sym (add-zero k)) b
   below_put (suc zero) l k w i h b c =
       subst (AllBelow m) (sym (ap (λ (j : ℕ). take j (set l k w)) (add-one k) ∙ take-suc-set l k w (omega arith))) (below-append m (take k l) (w ∷ []) b (c, tt))
   below_put (suc (suc v)) l k w i h b c = absurd (omega arith)
 
-  -- words more are filled
+  -- after words are appended
   pub below-sets : (l : List ℕ) (k : ℕ) (s : List ℕ) (j : ℕ) → length s ≡ j → k + j ≤ length l → AllBelow m (take k l) → AllBelow m s → AllBelow m (take (k + j) (sets l k s))
   below-sets l k s j e h b c = subst (AllBelow m) (sym filled) (below-append m (take k l) s b c)
     where

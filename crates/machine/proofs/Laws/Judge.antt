@@ -1,4 +1,4 @@
--- The register machine, told the kinds of its registers, gives the command's verdict.
+-- The register machine, which judges by the kinds of its registers, gives the command's verdict.
 use Prim.Native.Nat.{ℕ, ◌-◌}
 use mathlib.Core.Path.{◌≡◌, refl, ap, ap₂, ◌∙◌}
 use mathlib.Core.Bool.{Bool, true, false, ◌&&◌}
@@ -27,18 +27,18 @@ use Rattle.machine.specs.Start.{register_of, up_to, starting_registers}
 use Rattle.protocols.proofs.Laws.Deliveries.{both}
 use Rattle.machine.proofs.Laws.Entries.{map-up_to, up_to-take}
 
--- ---- the verdict reads no kind but those of filled handles
+-- ---- the verdict depends on the kinds of filled handles only
 
 pub filled_is : (p : Place) (h : ℕ) → is_filled p h ≡ true → IsFilled p h
 filled_is p h e = let t = both (ltb 0 h) (leb h p.handles) e in (ltb-true 0 h t.0, leb-true h p.handles t.1)
 
--- test 7 comes before test 8
+-- test 8 counts only if test 7 holds
 fits_alike : (h k k' : Bool) (next : CheckResult) → (h ≡ true → k ≡ k')
     → check HandleNotFilled h (check WrongKind k next) ≡ check HandleNotFilled h (check WrongKind k' next)
 fits_alike true k k' next e = ap (λ (b : Bool). check WrongKind b next) (e refl)
 fits_alike false k k' next e = refl
 
--- lengths and places come before the kinds
+-- the kinds count only if lengths and counts fit
 sound-alike : (a b : Bool) (f : List ℕ → Bool) (v : List ℕ → Verdict) (k k' : List ℕ) → (a ≡ true → b ≡ true → k ≡ k')
     → test LentUnsoundly (a && (b && f k)) (v k) ≡ test LentUnsoundly (a && (b && f k')) (v k')
 sound-alike true true f v k k' e = ap (λ (l : List ℕ). test LentUnsoundly (f l) (v l)) (e refl refl)

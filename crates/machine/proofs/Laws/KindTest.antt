@@ -1,4 +1,4 @@
--- The test of the filled kinds by one word.
+-- The test of all filled kinds by one word.
 use Prim.Native.Nat.{ℕ, zero, suc, ◌+◌, ◌%◌, ◌<◌, ◌≤◌}
 use mathlib.Core.Path.{◌≡◌, refl, sym, ap₂, ◌∙◌}
 use mathlib.Core.Bool.{Bool, true, false, ◌&&◌, ◌||◌}
@@ -11,7 +11,7 @@ use Rattle.protocols.specs.Word.{width, modulus, sub}
 use Rattle.protocols.proofs.Laws.Ring.{sub_unique}
 use Rattle.machine.specs.Verdict.{is_kind}
 
--- k less 1 is the word r that 1 added to makes k
+-- the test of k, from the word r for which r + 1 is k
 by_sum : (r k : ℕ) → r < modulus 5 → k < modulus 5 → (r + 1) % modulus 5 ≡ k → ltb r 2 ≡ is_kind k → ltb (sub (modulus 5) k 1) 2 ≡ is_kind k
 by_sum r k hr hk e f = rw (← sub_unique (modulus 5) (pow_pos (width 5)) r k 1 hr hk e) f
 
@@ -20,7 +20,7 @@ no_kind k =
     le-ltb (suc (suc k)) 2 (omega arith)
     ∙ sym (ap₂ ◌||◌ (ne_eqb (suc (suc (suc k))) 1 (λ f. omega (arith, f))) (ne_eqb (suc (suc (suc k))) 2 (λ f. omega (arith, f))))
 
--- less 1, a kind has no bit but the lowest
+-- a word less 1 is below 2 exactly if the word is a kind
 pub kind_less_one : (k : ℕ) → k < modulus 5 → ltb (sub (modulus 5) k 1) 2 ≡ is_kind k
 kind_less_one zero h = by_sum 4294967295 0 (omega arith) h refl refl
 kind_less_one (suc zero) h = by_sum 0 1 (omega arith) h refl refl
@@ -30,7 +30,7 @@ kind_less_one (suc (suc (suc k))) h = by_sum (suc (suc k)) (suc (suc (suc k))) (
 or_above : (a b : ℕ) → a ≤ bit_or a b
 or_above a b = omega (arith, or_add_and a b, and_le_r a b)
 
--- a word and another have no bit but the lowest
+-- the bitwise or of two words is below 2 exactly if both are
 pub small_or : (a b : ℕ) → ltb (bit_or a b) 2 ≡ (ltb a 2 && ltb b 2)
 small_or a b = by_test (ltb a 2) (ltb b 2) refl refl
   where

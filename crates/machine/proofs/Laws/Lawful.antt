@@ -1,4 +1,4 @@
--- What each command must meet (`Lawful`), and that each of the twelve does. The laws of commands read it here, and split on no command.
+-- The laws that each of the twelve commands meets (`Lawful`). Other proofs use these, without cases for each command.
 use Prim.Native.Nat.{ℕ, ◌+◌, ◌-◌, ◌≤◌, ◌<◌}
 use mathlib.Core.Path.{◌≡◌, refl, ap, ap₂}
 use mathlib.Core.Bool.{cond}
@@ -48,18 +48,18 @@ use Rattle.machine.proofs.Laws.Part.{same-on, counted-on, blind-on}
 
 -- ---- what a command works on
 
--- it is words
+-- the arguments are words
 abbrev pub ArgumentsAreWords : ℕ → Code → Arguments → Type 0
 ArgumentsAreWords n x g =
     (g.input < modulus n) × IfHandle (row n x).a (SharesAreWords (modulus n) g.u) × IfHandle (row n x).b (SharesAreWords (modulus n) g.v)
 
--- it looks the same to an observer: the inputs may differ, and what an open shows may not
+-- the arguments look the same to an observer: inputs may differ, the word that an open shows may not
 pub record SameArguments (n : ℕ) (o : Observer) (x : Code) (g g' : Arguments) : Type 0 where
   pub u : SameShares o g.u g'.u
   pub v : SameShares o g.v g'.v
   pub opened : x ≡ Open → Sees o controller → sum_of (modulus n) g.u ≡ sum_of (modulus n) g'.u
 
--- what a party has of it: the next input the provider, its shares of the operands a miner
+-- a party's own arguments: the provider's next input, a miner's shares of the operands
 pub record OwnArguments : Type 0 where
   pub input : ℕ
   pub u : ℕ
@@ -71,9 +71,9 @@ own_arguments i g = record { input = input i g.input; u = share i g.u; v = share
 abbrev own_both : OwnArguments → Pair
 own_both g = record { u = g.u; v = g.v }
 
--- ---- what each command must meet
+-- ---- the laws of a command
 
--- the new handle has the kind of the row, and holds the row's value of what the operands' shares combine to
+-- the new handle has the row's kind, and the command's value of what the operands' shares combine to
 abbrev pub NewHandle : ℕ → Command → Place → Lent → Code → Type 0
 NewHandle n c p l x =
     let k = kind_number (row n x).kind in
@@ -83,24 +83,24 @@ NewHandle n c p l x =
     × (combined_word (modulus n) k (shares_at o.lent.tables (p.handles + 1)) ≡ value n x (operand c.a) (operand c.b) c.b (get_or l.inputs p.inputs 0))
 
 pub record Lawful (x : Code) : Type 0 where
-  -- by its row it has one new value or none, and store alone takes an input
+  -- its row has at most one new value, and only store takes an input
   pub one_value : (n : ℕ) → (row n x).values ≤ 1
   pub takes_input : (n : ℕ) → 0 < (row n x).inputs → x ≡ Store
-  -- what its protocol comes to, and its value, depend on nothing that the row does not name
+  -- its protocol and its value depend only on the arguments that the row names
   pub same_outcome : (b : ℕ) (p : Place) (t : Tapes) (g h : Arguments)
       → Serves (row 5 x) g h → perform (protocol 5 x b) g p t ≡ perform (protocol 5 x b) h p t
   pub same_value : (n u u' v v' b input : ℕ)
       → IfHandle (row n x).a (u ≡ u') → IfHandle (row n x).b (v ≡ v') → value n x u v b input ≡ value n x u' v' b input
-  -- its protocol draws, delivers and makes what the row says
+  -- its protocol draws and sends as many words as the row says, and makes words
   pub counted : (n b : ℕ)
       → HasCounts (modulus n) (protocol n x b) (ArgumentsAreWords n x) (SharesAreWords (modulus n)) (row n x).drawn (row n x).received
   -- its new shares combine to the register machine's value, from what the operands' shares combine to
   pub combines : (n b : ℕ) (g : Arguments) (t : Tapes) → ArgumentsAreWords n x g → Contents (modulus n) (protocol n x b).draws t
       → combined_word (modulus n) (kind_number (row n x).kind) ((protocol n x b).result g t)
       ≡ value n x (combined_word (modulus n) (kind_number (row n x).operands) g.u) (combined_word (modulus n) (kind_number (row n x).operands) g.v) b g.input
-  -- which is the new value that agreement claims
+  -- this is the new value of the agreement
   pub new_value : (n : ℕ) (c : Command) (p : Place) (l : Lent) → ((row n x).values ≡ 1 → NewHandle n c p l x) → NewValue n c p l x
-  -- it is blind, and it is played by parties apart
+  -- its protocol is blind, and parties apart can play it
   pub blind : (n : ℕ) (o : Observer) (b : ℕ)
       → Blind (modulus n) o (protocol n x b) (ArgumentsAreWords n x) (SameArguments n o x) (SameShares o)
   pub apart : (n b : ℕ) → PlayedApart (protocol n x b) own_arguments share

@@ -1,4 +1,4 @@
--- Each command's opened word, from the words that accepted opens answer: every other command answers 0.
+-- Each command's opened word, from those of the accepted opens: every other command opens 0.
 use Prim.Native.Nat.{ℕ}
 use mathlib.Core.Path.{◌≡◌, refl, ap, ap₂}
 use mathlib.Core.Bool.{Bool, true, false, cond, ◌&&◌}
@@ -16,7 +16,7 @@ use Rattle.machine.specs.Run.{run, Reply, reply, is_opened, opened_words}
 use Rattle.machine.proofs.Laws.Refusals.{command_refusals}
 use Rattle.machine.proofs.Laws.Agree.{command_agreement}
 
--- the words w to the accepted opens, 0 to all others
+-- the words w at the accepted opens, 0 at all other commands
 unfoldable pub spread : List Command → List Reply → List ℕ → List ℕ
 spread [] l w = []
 spread (c ∷ cs) [] w = []

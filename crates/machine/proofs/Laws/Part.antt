@@ -1,4 +1,4 @@
--- A protocol on a part of what is given does what the protocol itself does.
+-- A protocol on a part of its arguments has the properties of the protocol on that part.
 use Prim.Native.Nat.{ℕ}
 use mathlib.Core.Path.{◌≡◌, sym, ap, ◌∙◌}
 use Rattle.protocols.specs.declared.place.Drawn.{Drawn}
@@ -10,12 +10,12 @@ use Rattle.protocols.specs.Counts.{HasCounts}
 use Rattle.protocols.specs.Blind.{Observer, Blind}
 use Rattle.protocols.proofs.Laws.Perform.{perform-from_part}
 
--- it comes to the same from whatever has the same part
+-- it does the same on arguments with the same part
 pub same-on : {S T Z : Type 0} (part : S → T) (f : Protocol T Z) (g h : S) (p : Place) (t : Tapes)
     → part g ≡ part h → perform (from_part part f) g p t ≡ perform (from_part part f) h p t
 same-on part f g h p t e = perform-from_part part f g p t ∙ ap (λ s. perform f s p t) e ∙ sym (perform-from_part part f h p t)
 
--- it counts the same, where the part is good
+-- it has the same counts, if the part is good
 pub counted-on : {m : ℕ} {S T Z : Type 0} {f : Protocol T Z} {Good : T → Type 0} {Made : Z → Type 0} {d : Drawn} {k : Received}
     {Have : S → Type 0} (part : S → T)
     → ((s : S) → Have s → Good (part s)) → HasCounts m f Good Made d k → HasCounts m (from_part part f) Have Made d k
@@ -26,7 +26,7 @@ counted-on part good e = record {
   made = λ s h. e.made (part s) (good s h);
 }
 
--- it is as blind
+-- it is blind
 pub blind-on : {m : ℕ} {o : Observer} {S T Z : Type 0} {f : Protocol T Z} {Good : T → Type 0} {Same : T → T → Type 0}
     {After : Z → Z → Type 0} {Have : S → Type 0} {Like : S → S → Type 0} (part : S → T)
     → ((s : S) → Have s → Good (part s)) → ((s s' : S) → Like s s' → Same (part s) (part s'))

@@ -1,5 +1,5 @@
--- What a command's protocol leaves on all that is lent: where it draws and sends nothing, and where it is a protocol of a part of what
--- is given. By these the check finds that each command of src/commands.rt plays its own.
+-- What a command's protocol delivers, if it draws and sends nothing, and if it works on a part of the arguments;
+-- src/commands.rt uses both.
 use Prim.Native.Nat.{ℕ, ◌+◌}
 use mathlib.Core.Path.{◌≡◌, sym, ap, ◌∙◌}
 use native.Mathlib.Omega.{arith}
@@ -37,7 +37,7 @@ none_lacks {d} p t e i lacks = omega (arith, lacks, none i)
     none Two = λ j. (e j).two
     none Three = λ j. (e j).three
 
--- what it makes is all that it comes to
+-- it delivers its result and nothing else
 pub delivery_without_draws : {S : Type 0} (f : Protocol S Shares) (s : S) (p : Place) (t : Tapes) (l : Lists) {x : Shares}
     → f.draws ≡ counts 0 0 0 0 → f.received s (block f.draws p t) ≡ silence → x ≡ f.result s (block f.draws p t)
     → delivery_of (success x p) l ≡ delivery p (perform f s p t) l
@@ -50,7 +50,7 @@ delivery_without_draws f s p t l ed er ex =
     ∙ (λ i. done (f.result s w) (er i) (advance p (ed i)))
     ∙ ap (done (f.result s w) silence) (unmoved p)))
 
--- ---- a protocol of a part of what is given
+-- ---- a protocol on a part of the arguments
 
 pub delivery_from_part : {S Z : Type 0} (part : S → Z) (f : Protocol Z Shares) (s : S) (p : Place) (t : Tapes) (l : Lists) {r : Delivery}
     → r ≡ delivery p (perform f (part s) p t) l → r ≡ delivery p (perform (from_part part f) s p t) l

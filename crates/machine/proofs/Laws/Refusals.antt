@@ -1,4 +1,4 @@
--- Refusals: every command answers the lowest number of the table that applies.
+-- Every command answers the lowest refusal that applies; Specification: Order of refusals.
 use Prim.Native.Nat.{ℕ, suc, ◌-◌, ◌≤◌, ◌<◌}
 use mathlib.Core.Path.{◌≡◌, refl, sym, ap, ◌∙◌, subst}
 use mathlib.Core.Bool.{Bool, true, false}
@@ -29,7 +29,7 @@ use Rattle.machine.proofs.Laws.Lowest.{Exact, passes, refuses, lower, step, same
 use Rattle.machine.proofs.Laws.Tests.{Decides, same_as, and, stable, by_le, by_lt, by_eq, some_field, some_miner, four, some_tape, some_list, if_unused, if_handle, if_position, by_filled, stable_filled, NoKind, by_kinds}
 use Rattle.machine.proofs.Laws.Lawful.{lawful}
 
--- what a chain of tests gives: `Accepted` where no number from k on applies, `Refused` with the lowest otherwise
+-- what several tests give: `Accepted` if no number from k on applies, else `Refused` with the lowest
 abbrev Passes : Verdict → Type 0
 Passes (Accepted x) = Unit {0}
 Passes (Refused r) = ⊥
@@ -37,7 +37,7 @@ Passes (Refused r) = ⊥
 abbrev Judged : (ℕ → Type 0) → ℕ → Verdict → Type 0
 Judged = Exact Passes Refused table.refusal_number
 
--- the checks are tests
+-- six checks, then a verdict, are six tests
 checks_tests : (a b c d e f : Bool) (next : Verdict)
     → after_checks
     (check FieldNotZero a (check HandleNotFilled b (check WrongKind c (check PositionOutside d (check TablesFull e (check InputsUsed f pass))))))
@@ -57,7 +57,7 @@ row-value : (n : ℕ) (x : Code) → 0 < (row n x).values → (row n x).values �
 row-value n x h = omega (arith, h, (lawful x).one_value n)
 
 module _ (n : ℕ) (c : Command) (p : Place) (l : Lent) where
-  -- the numbers of the table
+  -- the numbers that can apply to a command
   pub bounds : {q : ℕ} → Applies n c p l q → (4 ≤ q) × (q ≤ 13)
   bounds (lengths_differ i h) = omega arith
   bounds (place_beyond k h) = omega arith
@@ -72,7 +72,7 @@ module _ (n : ℕ) (c : Command) (p : Place) (l : Lent) where
   bounds (spent_tape x e i h) = omega arith
   bounds (list_full x e r h) = omega arith
 
-  -- ---- 4
+  -- ---- refusal 4
 
   -- the three cases
   abbrev Differ : Type 0
@@ -111,7 +111,7 @@ module _ (n : ℕ) (c : Command) (p : Place) (l : Lent) where
       from (drawn i) h = inr (inr (inl (i, h)))
       from (received r) h = inr (inr (inr (r, h)))
 
-  -- where neither of the first two cases holds, every filled handle has a kind
+  -- if neither of the first two cases holds, every filled handle has an entry in the kind list
   fits : ¬ Differ → ¬ Beyond → p.handles ≤ length l.kinds
   fits agree inside =
       let not_beyond : ¬ (length l.tables.one < p.handles) = λ h. inside (handles, h) in
@@ -133,7 +133,7 @@ module _ (n : ℕ) (c : Command) (p : Place) (l : Lent) where
       from (place_beyond k h) = inr (inl (k, h))
       from (no_kind h f g i) = inr (inr (h - 1, omega arith, (g, i)))
 
-  -- ---- 6 to 13, where the command is x
+  -- ---- refusals 6 to 13, for the command x
 
   module _ (x : Code) (e : code_named c.code ≡ Ok x) where
     test_6 : Decides (Applies n c p l 6) (unused_zero (row n x) c)
@@ -154,7 +154,7 @@ module _ (n : ℕ) (c : Command) (p : Place) (l : Lent) where
         from : Applies n c p l 7 → Line x
         from (not_filled y k f u h) = subst Line (same_code k e) (f, (u, h))
 
-    -- where 7 does not apply, each used handle is filled
+    -- if 7 does not apply, each handle is filled
     test_8 : ¬ Applies n c p l 7 → Decides (Applies n c p l 8) (kinds_fit (row n x) l.kinds c)
     test_8 seven = same_as to from (some_field (λ f. if_handle (use_of f (row n x)) (by_eq (entry l.kinds (field f c)) (kind_number (row n x).operands))))
       where
@@ -236,7 +236,7 @@ module _ (n : ℕ) (c : Command) (p : Place) (l : Lent) where
         none : (q : ℕ) → 14 ≤ q → ¬ Applies n c p l q
         none q h s = omega (arith, bounds s)
 
-  -- ---- 5, and all of it
+  -- ---- refusal 5, and all tests
 
   from_5 : {y : Result Code Refusal} → Known 1 c.code y → code_named c.code ≡ y → Judged (Applies n c p l) 5 (code_verdict n y c p (sizes l) l.kinds)
   from_5 (found x f g o) e = lower no_5 (from_6 x e)
@@ -249,7 +249,7 @@ module _ (n : ℕ) (c : Command) (p : Place) (l : Lent) where
   unfolding verdict
   exact = step LentUnsoundly test_4 (λ n4. from_5 (known c.code) refl)
 
-  -- ---- what is answered
+  -- ---- the answer
 
   unchanged-at : (v : Verdict) → ¬ ((verdict_outcome n v c p l).answer.number ≡ 0) → verdict_outcome n v c p l ≡ command_outcome (answer (verdict_outcome n v c p l).answer.number p 0) l
   unfolding accepted_outcome

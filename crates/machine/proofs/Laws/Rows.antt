@@ -1,4 +1,4 @@
--- Facts of the table of commands, by going through it.
+-- Facts about the table of commands, by cases; Specification: Table of commands.
 use Prim.Native.Nat.{ℕ, suc, ◌≤◌}
 use mathlib.Core.Path.{◌≡◌, refl, sym, ap, ◌∙◌, subst}
 use mathlib.Core.Bool.{Bool, cond}
@@ -33,7 +33,7 @@ table_at_32 = record {
   below = (refl, refl);
 }
 
--- ---- each line of the table of refusals has a number
+-- ---- the numbers of refusals are positive
 
 pub refusal_number-positive : (r : Refusal) → 1 ≤ refusal_number r
 refusal_number-positive NotWhole = lit≤ tt
@@ -50,13 +50,13 @@ refusal_number-positive InputsUsed = lit≤ tt
 refusal_number-positive TapeSpent = lit≤ tt
 refusal_number-positive ListFull = lit≤ tt
 
--- ---- the code words from 1 to 12 have a command, and that of 11 opens
+-- ---- the codes 1 to 12 have a command, and that of 11 opens
 
--- the command of the code word k opens just where k is 11
+-- the command x of the code k opens exactly if k is 11
 abbrev pub OpensAt11 : ℕ → Code → Type 0
 OpensAt11 k x = (n : ℕ) → eqb k 11 ≡ opens_value (row n x)
 
--- what is looked up for the code word k, of the codes from j
+-- the result of looking up the code k among the codes from j on
 pub data Known (j k : ℕ) : Result Code Refusal → Type 0 where
   found : (x : Code) → j ≤ k → k ≤ 12 → OpensAt11 k x → Known j k (Ok x)
   missing : ¬ ((j ≤ k) × (k ≤ 12)) → Known j k (Err UnknownCode)

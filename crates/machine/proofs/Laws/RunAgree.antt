@@ -1,4 +1,4 @@
--- Lists of commands: the register machine, run by itself, agrees throughout and at the end.
+-- Agreement of runs: at each command, and at the end with the register machine that is started once.
 use Prim.Native.Nat.{ℕ}
 use mathlib.Core.Path.{◌≡◌, refl, ap₂, ◌∙◌}
 use mathlib.Core.List.{List, [], ◌∷◌, ◌++◌, map}
@@ -19,7 +19,7 @@ unfolding Throughout
 throughout n [] p l w = tt
 throughout n (c ∷ cs) p l w = let e = command_agreement n c p l w in (e, throughout n cs (command n c p l).answer.place (command n c p l).lent e.words)
 
--- whatever the register machine goes on to do, it goes on from what the command leaves
+-- the register machine after the command is the one that starts from what the command leaves
 pub goes_on : {A : Type 0} (n : ℕ) (c : Command) (p : Place) (l : Lent) (f : Sizes → List ℕ → Registers → A) → LentAreWords (modulus n) p l
     → let o = command n c p l in f (sizes o.lent) o.lent.inputs (starting_registers n o.answer.place o.lent) ≡ f (sizes l) l.inputs (step n c (sizes l) l.inputs (starting_registers n p l))
 goes_on n c p l f w = let e = command_agreement n c p l w in λ i. f (e.sizes_kept i) (e.inputs_kept i) (start-after n c p l w i)

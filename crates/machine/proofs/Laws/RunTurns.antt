@@ -1,4 +1,4 @@
--- The run of a list of commands, a command a turn: what was done, the last answer, and what is lent.
+-- The code's loop, one command in each turn: how many are done, the last answer, and the lent lists.
 use Prim.Native.Nat.{ℕ, suc, ◌+◌, ◌/◌, ◌≤◌, ◌<◌}
 use mathlib.Core.Path.{◌≡◌, refl, sym, ◌∙◌}
 use mathlib.Core.Bool.{Bool, true, false, cond}
@@ -24,7 +24,7 @@ use Rattle.machine.proofs.Laws.Runs.{to_refusal_none, to_refusal-first}
 use Rattle.machine.proofs.Laws.Threes.{of_words, commands_cut}
 use Rattle.machine.proofs.Laws.Sound.{sound-after}
 
--- the end of a run after k commands done before it, the last of them with the answer a
+-- the end of a run that goes on after k commands were done, the last with the answer a
 abbrev pub end_after : ℕ → Answer → RunResult → RunOutcome
 end_after k a r = run_outcome (record { done = k + accepted_count r.answers; last = last_answer a r.answers }) r.lent
 
@@ -46,29 +46,29 @@ after-refused : (k : ℕ) (a : Answer) (o : CommandOutcome) → ¬ (o.answer.num
 unfolding accepted_count last_answer
 after-refused k a o e = rw (ne_eqb o.answer.number 0 e, none_more k)
 
--- the first of some commands, after k done, from the answer a
+-- the next command c, after k are done, the last with the answer a
 module _ (c : Command) (cs : List Command) (k : ℕ) (a : Answer) (l : Lent) (o : CommandOutcome) (eo : o ≡ command 5 c a.place l) where
   first : run_to_refusal 5 (c ∷ cs) a.place l
       ≡ cond (eqb o.answer.number 0) (after_command o (run_to_refusal 5 cs o.answer.place o.lent)) (after_command o (run_result [] o.answer.place o.lent))
   first = rw eo (to_refusal-first 5 c cs a.place l)
 
-  -- accepted, it is one more done
+  -- if it is accepted, one more is done
   first-accepted : o.answer.number ≡ 0
       → end_after (k + 1) o.answer (run_to_refusal 5 cs o.answer.place o.lent) ≡ end_after k a (run_to_refusal 5 (c ∷ cs) a.place l)
   first-accepted e = rw (first, eq-eqb o.answer.number 0 e) (sym (after-accepted k a o (run_to_refusal 5 cs o.answer.place o.lent) e))
 
-  -- refused, it is the last
+  -- if it is refused, it is the last
   first-refused : ¬ (o.answer.number ≡ 0) → run_outcome (record { done = k; last = o.answer }) o.lent ≡ end_after k a (run_to_refusal 5 (c ∷ cs) a.place l)
   first-refused e = rw (first, ne_eqb o.answer.number 0 e) (sym (after-refused k a o e))
 
--- where no command is left, the last answer is a
+-- if no command is left, the last answer is a
 none_left : (k : ℕ) (a : Answer) (l : Lent) → run_outcome (record { done = k; last = a }) l ≡ end_after k a (run_to_refusal 5 [] a.place l)
 unfolding accepted_count last_answer
 none_left k a l = rw (to_refusal_none, none_more k)
 
--- ---- the commands cut in threes, of which k are done and a was the last answer
+-- ---- the commands as three words each, of which k are done, the last with the answer a
 
--- what is yet to be run
+-- the run of the commands that are left
 abbrev pub rest_of_run : List (List ℕ) → ℕ → Answer → Lent → RunResult
 rest_of_run cut k a l = run_to_refusal 5 (map of_words (drop k cut)) a.place l
 
@@ -88,15 +88,15 @@ module _ (cut : List (List ℕ)) (k : ℕ) (a : Answer) (l : Lent) where
     pub turn-refused : ¬ (o.answer.number ≡ 0) → run_outcome (record { done = k; last = o.answer }) o.lent ≡ end_after k a (rest_of_run cut k a l)
     turn-refused e = rw next (first-refused (of_words (get_or cut k [])) (map of_words (drop (k + 1) cut)) k a l o eo e)
 
-    -- number 4 does not apply after the command
+    -- refusal 4 does not apply after the command
     pub turn-sound : is_sound a.place (sizes l) l.kinds ≡ true → is_sound o.answer.place (sizes o.lent) o.lent.kinds ≡ true
     turn-sound s = rw eo (sound-after 5 (of_words (get_or cut k [])) a.place l s)
 
-  -- where all are done, the last answer is a
+  -- if all are done, the last answer is a
   pub turns_end : length cut ≤ k → run_outcome (record { done = k; last = a }) l ≡ end_after k a (rest_of_run cut k a l)
   turns_end h = rw (drop_all k cut h) (none_left k a l)
 
--- ---- where number 4 applies
+-- ---- if refusal 4 applies
 
 pub command-unsound : (n : ℕ) (c : Command) (p : Place) (l : Lent) → is_sound p (sizes l) l.kinds ≡ false → command n c p l ≡ command_outcome (answer 4 p 0) l
 unfolding command verdict
@@ -134,7 +134,7 @@ module _ (n : ℕ) where
       by_test true o e = e
       by_test false o e = refl
 
-  -- its number is that of the refused command, or 0
+  -- its number is that of the first refusal, or 0
   pub last_number : (cs : List Command) (l : Lent) (a : Answer) → a.number ≡ 0
       → let r = run_to_refusal n cs a.place l in refused_number r.answers ≡ (last_answer a r.answers).number
   unfolding run_to_refusal last_answer refused_number

@@ -1,4 +1,4 @@
--- Runs, the commands done and what they open, a command at a time: what a layer above cites in place of the definitions.
+-- Runs, the commands done and the opened words, one command at a time: laws for other crates.
 use Prim.Native.Nat.{ℕ, suc}
 use mathlib.Core.Path.{◌≡◌, refl, ap}
 use mathlib.Core.Bool.{cond}
@@ -30,7 +30,7 @@ unfolding run
 length-answers n [] p l = refl
 length-answers n (c ∷ cs) p l = let o = command n c p l in ap suc (length-answers n cs o.answer.place o.lent)
 
--- ---- to the first refused command
+-- ---- up to the first refusal
 
 pub to_refusal_none : (n : ℕ) (p : Place) (l : Lent) → run_to_refusal n [] p l ≡ run_result [] p l
 unfolding run_to_refusal
@@ -42,7 +42,7 @@ pub to_refusal-first : (n : ℕ) (c : Command) (cs : List Command) (p : Place) (
 unfolding run_to_refusal
 to_refusal-first n c cs p l = refl
 
--- ---- commands done, and the number of a refused one
+-- ---- how many commands are done, and the number of a refusal
 
 pub accepted_none : accepted_count [] ≡ 0
 unfolding accepted_count
@@ -60,16 +60,16 @@ pub refused_next : (a : Answer) (l : List Answer) → refused_number (a ∷ l) �
 unfolding refused_number
 refused_next a l = refl
 
--- ---- the words opened
+-- ---- the opened words
 
 pub opened_next : (c : Command) (cs : List Command) (a : Answer) (l : List Answer)
     → opened_words (c ∷ cs) (a ∷ l) ≡ cond (is_opened c a) (a.opened ∷ []) [] ++ opened_words cs l
 unfolding opened_words
 opened_next c cs a l = refl
 
--- ---- the registers that shares stand for
+-- ---- the registers of the shares
 
--- nothing but tables and kinds counts
+-- they depend on tables and kinds only
 pub start_by_tables : (n : ℕ) (p : Place) (l : Lent) (inputs : List ℕ) (t : Tapes) (r : Lists)
     → starting_registers n p (lent_lists l.tables l.kinds inputs t r) ≡ starting_registers n p l
 unfolding starting_registers

@@ -1,4 +1,5 @@
--- Number 4: where it does not apply, it applies after no command, and nowhere at the empty place with equally long lists.
+-- Refusal 4: if it does not apply before a command, it does not after; nor at the empty place record with lists of one
+-- length.
 use Prim.Native.Nat.{ℕ, zero, suc, ◌+◌, ◌≤◌, ◌<◌}
 use mathlib.Core.Path.{◌≡◌, refl, sym, ap, ◌∙◌, subst}
 use mathlib.Core.Logic.{◌⊎◌, inl, inr}
@@ -33,7 +34,7 @@ use Rattle.machine.proofs.Laws.Steps.{count-lengths}
 use Rattle.machine.proofs.Laws.Blind.Public.{place_after, kinds_after, command_public}
 use Rattle.machine.proofs.Laws.Lawful.{lawful}
 
--- ---- lengths, told by the sizes
+-- ---- lengths, from the sizes
 
 abbrev table_size : Miner → Sizes → ℕ
 table_size one z = z.one
@@ -63,7 +64,7 @@ has_number : (k : Kind) → ¬ NoKind (kind_number k)
 has_number RingValue h = h.0 refl
 has_number BitWord h = h.1 refl
 
--- a handle with no kind, after a value of the kind w is written behind k handles, had none before
+-- a handle that has no kind after a value of kind w is written had none before
 had_none : (v : ℕ) (l : List ℕ) (k w h : ℕ) → v ≤ 1 → k + v ≤ length l → ¬ NoKind w → 1 ≤ h → h ≤ k + v → NoKind (entry (with_entry v l k w) h)
     → (h ≤ k) × NoKind (entry l h)
 had_none zero l k w h i fits good a b e = (omega arith, e)
@@ -78,7 +79,7 @@ had_none (suc (suc v)) l k w h i fits good a b e = absurd (omega arith)
 
 -- ---- after a command
 
--- where a case of number 4 holds after the command, one holds before it
+-- if refusal 4 applies after the command, it applies before it
 module _ (n : ℕ) (c : Command) (p : Place) (l : Lent) where
   abbrev decision : Verdict
   decision = verdict n c p (sizes l) l.kinds
@@ -125,14 +126,14 @@ pub stays_sound : (n : ℕ) (c d : Command) (p : Place) (l : Lent)
     → ¬ Applies n c p l 4 → ¬ Applies n d (command n c p l).answer.place (command n c p l).lent 4
 stays_sound n c d p l none h = none (applied_before n c p l d h)
 
--- the same of its test
+-- the same for its test
 pub sound-after : (n : ℕ) (c : Command) (p : Place) (l : Lent) → is_sound p (sizes l) l.kinds ≡ true → let o = command n c p l in
     is_sound o.answer.place (sizes o.lent) o.lent.kinds ≡ true
 sound-after n c p l e =
     let o = command n c p l in
     holds_where (test_4 n c o.answer.place o.lent) (stays_sound n c c p l (not_where (test_4 n c p l) e))
 
--- nor does it apply after any run
+-- nor does it apply after a run
 pub run-stays_sound : (n : ℕ) (cs : List Command) (p : Place) (l : Lent) → ((d : Command) → ¬ Applies n d p l 4)
     → (d : Command) → ¬ Applies n d (run n cs p l).place (run n cs p l).lent 4
 unfolding run
@@ -140,7 +141,7 @@ run-stays_sound n [] p l none = none
 run-stays_sound n (c ∷ cs) p l none =
     let o = command n c p l in run-stays_sound n cs o.answer.place o.lent (λ d. stays_sound n c d p l (none c))
 
--- where it does not apply, a number that does is above it
+-- if it does not apply, a number that applies is 5 or more
 pub above_4 : (n : ℕ) (c : Command) (p : Place) (l : Lent) (r : ℕ) → ¬ Applies n c p l 4 → Applies n c p l r → 5 ≤ r
 above_4 n c p l r none h =
     elim (eq-or-lt_of_le (bounds n c p l h).0) [ inl e ↦ absurd (none (subst (Applies n c p l) (sym e) h)) | inr g ↦ g ]

@@ -1,4 +1,4 @@
--- One command where number 4 does not apply, by its tests.
+-- One command, if refusal 4 does not apply, by its tests.
 use mathlib.Core.Path.{◌≡◌, sym, ap, ◌∙◌}
 use mathlib.Core.Bool.{true}
 use Rattle.std.specs.Prelude.{Result, Ok, Err}
@@ -14,7 +14,7 @@ use Rattle.machine.specs.Command.{CommandOutcome, answer, command_outcome, verdi
 use Rattle.machine.proofs.Laws.Tested.{judged_by}
 
 module _ (c : Command) (p : Place) (l : Lent) (s : is_sound p (sizes l) l.kinds ≡ true) where
-  -- by the verdict v
+  -- the command, by the verdict v
   by_verdict : {v : Verdict} → v ≡ verdict 5 c p (sizes l) l.kinds → verdict_outcome 5 v c p l ≡ command 5 c p l
   unfolding command
   by_verdict e = ap (λ (v : Verdict). verdict_outcome 5 v c p l) e

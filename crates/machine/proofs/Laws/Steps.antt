@@ -1,4 +1,5 @@
--- A command's protocol on the lent tapes: an accepted one is never spent. And what an open hands the controller.
+-- A command's protocol on the lent tapes never lacks words, if the command is accepted; and what open sends to the
+-- controller.
 use Prim.Native.Nat.{ℕ, ◌-◌, ◌<◌}
 use mathlib.Core.Path.{◌≡◌, refl, ap₂, ◌∙◌, subst₂}
 use native.Mathlib.Omega.{arith}
@@ -22,21 +23,21 @@ use Rattle.machine.specs.Steps.{protocol}
 use Rattle.machine.proofs.Laws.Accepted.{every_one, Passed}
 use Rattle.machine.proofs.Laws.Lawful.{ring, lawful}
 
--- an open hands the controller its result, in miner order; no other command hands it anything, by its row
+-- open sends its result to the controller, in the order of the miners
 pub open_hands : (n b : ℕ) (g : Arguments) (t : Tapes) → ((protocol n Open b).received g t).controller ≡ in_order ((protocol n Open b).result g t)
 unfolding protocol
 open_hands n b g t = (ring n).opening_shown g.u t
 
 -- ---- tapes
 
--- a tape's length, as the machine is told it
+-- a tape's length, as one of the four lengths
 pub count-lengths : (i : Party) (t : Tapes) → count i (tape_lengths t) ≡ length (tape i t)
 count-lengths Provider t = refl
 count-lengths One t = refl
 count-lengths Two t = refl
 count-lengths Three t = refl
 
--- each tape has the words left that an accepted command's row draws
+-- each tape has the words left that an accepted command draws
 pub never_lacks : (n : ℕ) (x : Code) (c : Command) (p : Place) (l : Lent) → Passed n x c p (sizes l) l.kinds
     → (i : Party) → ¬ Lacks (row n x).drawn p l.tapes i
 never_lacks n x c p l a i lacks =
@@ -44,7 +45,7 @@ never_lacks n x c p l a i lacks =
     let has = leb-true (count i (row n x).drawn) (count i (tape_lengths l.tapes) - count i p.drawn) left in
     omega (arith, has, count-lengths i l.tapes, lacks)
 
--- a command's protocol where every tape has the words of its row, from a place q with the same words drawn as at p
+-- a command's protocol if every tape has the words of its row, from a place q with the draws of p
 pub performs : (n : ℕ) (x : Code) (b : ℕ) (g : Arguments) (p q : Place) (t : Tapes) → q.drawn ≡ p.drawn → ((i : Party) → ¬ Lacks (row n x).drawn p t i)
     → let f = protocol n x b in
     let w = block f.draws p t in

@@ -1,4 +1,4 @@
--- Numbers 12 and 13: a command's protocol tells them itself, on the unfilled part of each list.
+-- Refusals 12 and 13: a command's protocol finds them, on the unfilled part of each list.
 use Prim.Native.Nat.{◌+◌, ◌-◌, ◌≤◌, ◌<◌}
 use mathlib.Core.Path.{◌≡◌, refl, sym, subst, ◌∙◌}
 use mathlib.Core.Bool.{Bool, true, false}
@@ -34,14 +34,14 @@ use Rattle.machine.proofs.Laws.Tests.{Decides, holds, fails, some_tape, some_lis
 use Rattle.machine.proofs.Laws.Steps.{count-lengths, performs}
 use Rattle.machine.proofs.Laws.Lawful.{lawful}
 
--- each list is as long as the place has it filled
+-- each list is at least as long as its filled part
 filled-within : {x : Code} {c : Command} {p : Place} {l : Lent} → IsReady x c p l → (r : Receiver) → count_for r p.received ≤ length (list r l.received)
 filled-within ready (miner one) = ready.one
 filled-within ready (miner two) = ready.two
 filled-within ready (miner three) = ready.three
 filled-within ready controller = ready.controller
 
--- what is left of a list
+-- the length of the unfilled part of a list
 pub unfilled-length : (k : Received) (l : Lists) (r : Receiver) → length (list r (unfilled_part k l)) ≡ length (list r l) - count_for r k
 unfilled-length k l (miner one) = length-drop k.one l.one
 unfilled-length k l (miner two) = length-drop k.two l.two
@@ -49,7 +49,7 @@ unfilled-length k l (miner three) = length-drop k.three l.three
 unfilled-length k l controller = length-drop k.controller l.controller
 
 module _ (x : Code) (c : Command) (p : Place) (l : Lent) where
-  -- the command's protocol, what it is given and draws, and where its words go
+  -- the command's protocol, its arguments, the words that it draws, and the lists for those that it sends
   abbrev pub f : Protocol Arguments Shares
   f = protocol 5 x c.b
 
@@ -65,7 +65,7 @@ module _ (x : Code) (c : Command) (p : Place) (l : Lent) where
   abbrev verdict : Verdict
   verdict = supply_verdict (row 5 x) p (sizes l) (Accepted x)
 
--- the protocol's outcome o, with the lists b, by the verdict
+-- the protocol's outcome o and lists b are those of the verdict
 pub data FollowsVerdict (x : Code) (c : Command) (p : Place) (l : Lent) (o : Outcome) (b : Lists) : Type 0 where
   with_shortage : (s : Shortage) → supply_verdict (row 5 x) p (sizes l) (Accepted x) ≡ Refused (table.shortage_refusal s) → delivery_of o b ≡ delivery_of (failure (shortage_number s) p) (part x c p l)
       → FollowsVerdict x c p l o b

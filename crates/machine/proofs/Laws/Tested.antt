@@ -1,4 +1,4 @@
--- What numbers 6 to 11, where the code has tested them, say of the verdict and of what the command reads and writes.
+-- What follows from the code's tests 6 to 11, for the verdict and for what the command reads and writes.
 use Prim.Native.Nat.{ℕ, ◌+◌, ◌≤◌}
 use mathlib.Core.Path.{◌≡◌, sym, ap}
 use mathlib.Core.Bool.{true, ◌&&◌}
@@ -25,19 +25,19 @@ use Rattle.machine.specs.Private.Accept.{HaveEntries, HasEntry, IfHandle, IsRead
 use Rattle.machine.proofs.Laws.Accepted.{every_list_lem, refusal_passed, room, places_within}
 use Rattle.machine.proofs.Laws.Judge.{same-lengths}
 
--- the verdict, by what the checks 6 to 11 come to
+-- the verdict, from the result of the tests 6 to 11
 pub judged_by : (n : ℕ) (x : Row) (c : Command) (p : Place) (z : Sizes) (kinds : List ℕ) (next : Verdict) {r : CheckResult}
     → r ≡ row_checks n x c p z.one z.inputs kinds → row_verdict n x c p z kinds next ≡ after_checks r (supply_verdict x p z next)
 unfolding row_verdict
 judged_by n x c p z kinds next e = ap (λ (q : CheckResult). after_checks q (supply_verdict x p z next)) (sym e)
 
--- ---- where number 4 does not apply
+-- ---- if refusal 4 does not apply
 
 module _ (p : Place) (l : Lent) (s : is_sound p (sizes l) l.kinds ≡ true) where
   as_long : (i : Miner) → length (table i l.tables) ≡ length l.kinds
   as_long = same-lengths l (both (same_length (sizes l)) (is_within p (sizes l) && are_kinds (take p.handles l.kinds)) s).0
 
-  -- so many entries of the first table are entries of all
+  -- if the first table has n entries, all have
   entries_of : (n : ℕ) → n ≤ length l.tables.one → HaveEntries n l.tables l.kinds
   entries_of n h = record {
     one = h;
@@ -46,7 +46,7 @@ module _ (p : Place) (l : Lent) (s : is_sound p (sizes l) l.kinds ≡ true) wher
     kinds = omega (arith, h, as_long one);
   }
 
-  -- a field that is a handle names a filled one
+  -- each table has an entry of a filled handle
   entered_of : (u : Use) (h : ℕ) → meets u true (is_filled p h) true ≡ true → IfHandle u (HasEntry l.tables h)
   entered_of Unused h e = tt
   entered_of Handle h e =
@@ -56,7 +56,7 @@ module _ (p : Place) (l : Lent) (s : is_sound p (sizes l) l.kinds ≡ true) wher
   entered_of Word h e = tt
   entered_of Position h e = tt
 
--- where no number from 6 to 11 applies either, what the command reads is there, and what it does fits the lists
+-- if none of 6 to 11 applies either, the entries and words that the command reads and writes are there
 pub is_ready : (x : Code) (c : Command) (p : Place) (l : Lent) → is_sound p (sizes l) l.kinds ≡ true
     → pass ≡ row_checks 5 (row 5 x) c p (sizes l).one (sizes l).inputs l.kinds → IsReady x c p l
 is_ready x c p l s e =

@@ -1,4 +1,4 @@
--- Tests that decide: a test holds where its refusal does not apply, and fails where it does.
+-- Tests that decide: a test holds if its refusal does not apply, and fails if it does.
 use Prim.Native.Nat.{ℕ, zero, suc, ◌≤◌, ◌<◌, suc-le-suc}
 use mathlib.Core.Path.{◌≡◌, refl, ap}
 use mathlib.Core.Logic.{◌⊎◌, inl, inr}
@@ -21,7 +21,7 @@ use Rattle.machine.specs.Lent.{IsFilled}
 use Rattle.machine.specs.Verdict.{every_receiver, are_kinds, meets, is_filled}
 use Rattle.machine.specs.Refusals.{Field, a, b}
 
--- the test of the index holds where not P
+-- the test in the index holds exactly if P does not
 pub data Decides (P : Type 0) : Bool → Type 0 where
   holds : ¬ P → Decides P true
   fails : P → Decides P false
@@ -36,7 +36,7 @@ holds_where (fails p) n = absurd (n p)
 
 -- ---- connectives
 
--- the same test, of what says the same
+-- the same test decides an equivalent proposition
 pub same_as : {P Q : Type 0} {t : Bool} → (P → Q) → (Q → P) → Decides P t → Decides Q t
 same_as f g (holds h) = holds (λ q. h (g q))
 same_as f g (fails h) = fails (f h)
@@ -49,7 +49,7 @@ right {P} {Q} n (holds h) = holds none
     none (inr q) = h q
 right n (fails h) = fails (inr h)
 
--- the second test counts only where the first holds
+-- the second test counts only if the first holds
 pub and : {P Q : Type 0} {s t : Bool} → Decides P s → (¬ P → Decides Q t) → Decides (P ⊎ Q) (s && t)
 and (holds h) d = right h (d h)
 and (fails h) d = fails (inl h)
@@ -64,7 +64,7 @@ or (fails p) (fails q) = fails (p, q)
 
 -- ---- numbers
 
--- an equation that is not absurd
+-- an equation that cannot be false
 pub stable : (x y : ℕ) → ¬ ¬ (x ≡ y) → x ≡ y
 stable x y h = elim (ℕ_discrete x y) [ yes e ↦ e | no n ↦ absurd (h n) ]
 
@@ -89,7 +89,7 @@ by_eq x y = go (eqb x y) refl
     go true e = holds (λ h. h (eqb-true x y e))
     go false e = fails (eqb-false x y e)
 
--- ---- a test of each field and miner, and the counts of each tape and list
+-- ---- tests of all fields and miners, and of the counts of all tapes and lists
 
 pub some_field : {P : Field → Type 0} {t : Field → Bool} → ((f : Field) → Decides (P f) (t f)) → Decides ((f : Field) × P f) (t a && t b)
 some_field {P} d = same_as to (λ s. from s.0 s.1) (and (d a) (λ n. d b))
@@ -157,16 +157,16 @@ some_list f g = same_as to (λ s. from s.0 s.1) (four (at (miner one)) (at (mine
     from (miner three) h = inr (inr (inl h))
     from controller h = inr (inr (inr h))
 
--- ---- what a field must meet, by its use
+-- ---- the test of a field, by its use
 
--- the uses, told apart
+-- different uses have different numbers
 rank : Use → ℕ
 rank Unused = 0
 rank Handle = 1
 rank Word = 2
 rank Position = 3
 
--- nothing is asked of another use
+-- the test for one use does not apply to another
 other : {u v : Use} {P : Type 0} → ¬ (rank u ≡ rank v) → Decides ((u ≡ v) × P) true
 other h = holds (λ q. h (ap rank q.0))
 
@@ -214,7 +214,7 @@ stable_filled p h n =
 abbrev pub NoKind : ℕ → Type 0
 NoKind k = (¬ (k ≡ 1)) × (¬ (k ≡ 2))
 
--- the first k of a list that has as many
+-- the test of the first k kinds of a list that has k or more
 pub by_kinds : (k : ℕ) (l : List ℕ) → k ≤ length l → Decides ((i : ℕ) × (i < k) × NoKind (get_or l i 0)) (are_kinds (take k l))
 by_kinds zero l h = holds (λ s. not-suc-le-zero s.1)
 by_kinds (suc k) [] h = absurd (not-suc-le-zero h)

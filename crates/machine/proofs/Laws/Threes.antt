@@ -1,4 +1,4 @@
--- Lists that are read in threes.
+-- Lists that are read in threes: commands, and shares of opened words.
 use Prim.Native.Nat.{ℕ, zero, suc, ◌*◌, ◌/◌, ◌≤◌}
 use mathlib.Core.Path.{◌≡◌, refl, ap}
 use mathlib.Core.List.{List, [], ◌∷◌, map}
@@ -12,14 +12,14 @@ use Rattle.machine.specs.Run.{commands_of, sums_in_threes}
 
 -- ---- commands
 
--- a command's three words
+-- the command of three words
 abbrev pub of_words : List ℕ → Command
 of_words w = command_of (get_or w 0 0) (get_or w 1 0) (get_or w 2 0)
 
 three_more : (n : ℕ) → suc (suc (suc n)) / 3 ≡ suc (n / 3)
 three_more n = omega arith
 
--- three words each, as the code cuts them
+-- the commands are the threes into which the code cuts the list
 pub commands_cut : (l : List ℕ) → commands_of l ≡ map of_words (first_chunks 3 (length l / 3) l)
 unfolding commands_of
 commands_cut [] = refl
@@ -39,7 +39,7 @@ commands_taken (suc k) (x ∷ []) = rw (three_times k)
 commands_taken (suc k) (x ∷ y ∷ []) = rw (three_times k)
 commands_taken (suc k) (x ∷ y ∷ z ∷ l) = rw (three_times k) (ap (λ (cs : List Command). command_of x y z ∷ cs) (commands_taken k l))
 
--- three words each, and no more than there are
+-- the commands have no more words than the list
 pub commands_fit : (l : List ℕ) → 3 * length (commands_of l) ≤ length l
 unfolding commands_of
 commands_fit [] = omega arith
@@ -47,7 +47,7 @@ commands_fit (x ∷ []) = omega arith
 commands_fit (x ∷ y ∷ []) = omega arith
 commands_fit (x ∷ y ∷ z ∷ l) = let h = commands_fit l in omega (arith, h)
 
--- the word that three shares add up to
+-- the sum of three shares
 abbrev pub sum_in : ℕ → List ℕ → ℕ
 sum_in m s = sum_of m (shares (get_or s 0 0) (get_or s 1 0) (get_or s 2 0))
 

@@ -1,4 +1,4 @@
--- A run that stops at the first refused command is the run of the commands up to it, and opens what its inputs lead to.
+-- A run up to the first refusal is the run of the commands up to it, and opens what the register machine opens.
 use Prim.Native.Nat.{ℕ, zero, suc}
 use mathlib.Core.Path.{◌≡◌, refl, ap, ap₂, ◌∙◌}
 use mathlib.Core.Bool.{Bool, true, false, cond}
@@ -19,7 +19,7 @@ use Rattle.machine.proofs.Laws.Agree.{command_agreement, shown-after}
 use Rattle.machine.proofs.Laws.RunAgree.{goes_on as leads-on}
 use Rattle.machine.proofs.Laws.Runs.{to_refusal-first, opened_next}
 
--- the first command, with the number w
+-- the first command c, by its number w
 module _ (n : ℕ) (c : Command) (cs : List Command) (p : Place) (l : Lent) where
   abbrev first : CommandOutcome
   first = command n c p l

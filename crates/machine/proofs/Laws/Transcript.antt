@@ -1,5 +1,4 @@
--- The words that each party receives, over the lent tables, inputs and tapes: those of the protocols, on the next words
--- of the tapes.
+-- The words that each party receives, in terms of the lent tables, inputs and tapes.
 use Rattle.std.proofs.Common.{◌≡◌, ℕ, ◌<◌, ◌%◌, List, [], ◌∷◌, get_or, ap, ◌∙◌, subst, arith}
 use Rattle.std.specs.Prelude.{bit_xor, slice_index, Ok}
 use Rattle.protocols.specs.declared.place.Party.{Party}
@@ -21,7 +20,7 @@ use Rattle.machine.proofs.Laws.Agree.{is_accepted, counted_by}
 use Rattle.machine.proofs.Laws.Lawful.{lawful}
 
 module _ (n : ℕ) (c : Command) (p : Place) (l : Lent) where
-  -- the words drawn of a party by the row of x are its next ones
+  -- the words that a party draws for x are the next ones of its tape
   drawn_word : (x : Code) (i : Party) (k : ℕ) → k < count i (row n x).drawn
       → slice_index (tape i (block (row n x).drawn p l.tapes)) k ≡ next_word n c p l i k
   drawn_word x = block_words (row n x).drawn p l.tapes
@@ -105,7 +104,7 @@ module _ (n : ℕ) (c : Command) (p : Place) (l : Lent) where
       ∙ (λ j. lists [] (m₁₂ j ∷ b₁₂ j % 2 ∷ bit_xor (bit_xor (b j % 2) (b₁₂ j % 2)) (u three) ∷ [])
       (sub (modulus n) (bit_xor (b j % 2) (u one)) (m₁₂ j) ∷ bit_xor (b j % 2) (b₁₂ j % 2) ∷ bit_xor (b₁₂ j % 2) (u two) ∷ []) [])
 
-  -- an accepted command gains what its protocol sends
+  -- after an accepted command the lists have gained what its protocol sends
   gains : (x : Code) (v : Lists) → Sends x v → code_named c.code ≡ Ok x → number_answered n c p l ≡ 0 → Gain n c p l v
   gains x v e f z =
       subst (Gain n c p l)

@@ -1,4 +1,4 @@
--- The worked runs, by computation: all definitions on which a run stands are opened here, those of the protocols too.
+-- The worked runs, by computation: every definition that a run uses is unfolded here, also those of the protocols.
 use mathlib.Core.Path.{refl}
 use Rattle.protocols.specs.Word.{add, sub, mul, bit_at, of_bits, shift_up}
 use Rattle.protocols.specs.Shares.{sum_of}

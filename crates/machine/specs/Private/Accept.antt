@@ -1,5 +1,4 @@
--- An accepted command as the code does it: its protocol is played on the unfilled part of each list, then its entries
--- are written.
+-- An accepted command as the code does it: its protocol on the unfilled part of each received list, then its entries.
 use Rattle.std.specs.Prelude.{◌≡◌, ℕ, zero, suc, ◌+◌, ◌≤◌, ◌<◌, ◌^◌, List, length, drop}
 use Rattle.protocols.specs.declared.place.Place.{Place}
 use Rattle.protocols.specs.declared.place.Received.{Received}
@@ -19,7 +18,7 @@ use Rattle.machine.specs.declared.lent.Tables as code_tables
 use Rattle.machine.specs.Lent.{Tables, tables_of, Lent}
 use Rattle.machine.specs.Command.{answer, opened_word, with_entry, with_shares}
 
--- the counts of the place record, moved on by a row, fit 64 bits
+-- the counts of the place record, moved on by the row x, fit 64 bits
 pub record Fits (p : Place) (x : Row) : Type 0 where
   pub handles : p.handles + x.values < 2 ^ 64
   pub inputs : p.inputs + x.inputs < 2 ^ 64
@@ -28,21 +27,21 @@ pub record Fits (p : Place) (x : Row) : Type 0 where
   pub three : p.received.three + x.received.three < 2 ^ 64
   pub controller : p.received.controller + x.received.controller < 2 ^ 64
 
--- all tables and the kind list have n entries or more
+-- the tables and the kind list have n entries or more
 pub record HaveEntries (n : ℕ) (t : Tables) (k : List ℕ) : Type 0 where
   pub one : n ≤ length t.one
   pub two : n ≤ length t.two
   pub three : n ≤ length t.three
   pub kinds : n ≤ length k
 
--- every table has an entry of the handle h
+-- every table has the entry of handle h
 pub record HasEntry (t : Tables) (h : ℕ) : Type 0 where
   pub counted : 1 ≤ h
   pub one : h ≤ length t.one
   pub two : h ≤ length t.two
   pub three : h ≤ length t.three
 
--- A holds, if the field is used as a handle
+-- A holds if the field is a handle
 abbrev pub IfHandle : Use → Type 0 → Type 0
 IfHandle Unused A = Unit {0}
 IfHandle Handle A = A
@@ -53,7 +52,7 @@ IfHandle Position A = Unit {0}
 abbrev pub Serves : Row → Arguments → Arguments → Type 0
 Serves x g h = (¬ (x.inputs ≡ 0) → g.input ≡ h.input) × IfHandle x.a (g.u ≡ h.u) × IfHandle x.b (g.v ≡ h.v)
 
--- what the code reads and writes is there: so it is where number 4 and the numbers 6 to 11 do not apply
+-- the entries and words that the code reads and writes exist, as they do if none of the refusals 4 and 6 to 11 applies
 pub record IsReady (x : Code) (c : Command) (p : Place) (l : Lent) : Type 0 where
   pub entries : HaveEntries (p.handles + (row 5 x).values) l.tables l.kinds
   pub a : IfHandle (row 5 x).a (HasEntry l.tables c.a)
@@ -64,7 +63,7 @@ pub record IsReady (x : Code) (c : Command) (p : Place) (l : Lent) : Type 0 wher
   pub three : p.received.three ≤ length l.received.three
   pub controller : p.received.controller ≤ length l.received.controller
 
--- the place record after the draws, with its other counts moved on by the row
+-- the place record after the draws, with its other counts moved on by the row x
 abbrev pub with_row_counts : Place → Row → Place
 with_row_counts p x = record {
   handles = p.handles + x.values;
@@ -73,7 +72,7 @@ with_row_counts p x = record {
   received = plus_received p.received x.received;
 }
 
--- each list behind the words that it holds already
+-- each received list behind the words that k counts
 abbrev pub unfilled_part : Received → Lists → Lists
 unfilled_part k l = lists (drop k.one l.one) (drop k.two l.two) (drop k.three l.three) (drop k.controller l.controller)
 
@@ -88,12 +87,12 @@ table_entries t k = record { tables = t; kinds = k }
 abbrev pub table_entries_of : code_tables.Tables → TableEntries
 table_entries_of t = table_entries (tables_of t) t.kinds.now
 
--- with a new handle's entries, where a value is due
+-- tables and kind list, with a new handle's entries if there is a new value
 unfoldable pub with_new_entry : ℕ → ℕ → Shares → Kind → Tables → List ℕ → TableEntries
 with_new_entry values at s kind t kinds =
     table_entries (with_shares values t at s) (with_entry values kinds at (kind_number kind))
 
--- an answer, with the tables and the kind list after it
+-- an answer, and tables and kind list after it
 pub record StoreOutcome : Type 0 where
   pub answer : Answer
   pub stored : TableEntries
@@ -101,7 +100,7 @@ pub record StoreOutcome : Type 0 where
 abbrev pub store_outcome : Answer → TableEntries → StoreOutcome
 store_outcome a s = record { answer = a; stored = s }
 
--- after a protocol: refused with its number, or its shares are stored and the place record has moved on by the row
+-- after the protocol's outcome o: refused with its number, or its shares stored and the place record moved on
 abbrev pub outcome_by_number : ℕ → Row → Place → Outcome → Tables → List ℕ → StoreOutcome
 outcome_by_number zero x p o t kinds = store_outcome (answer 0 (with_row_counts o.place x) (opened_word 5 x o.shares))
     (with_new_entry x.values p.handles o.shares x.kind t kinds)

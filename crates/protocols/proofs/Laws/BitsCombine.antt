@@ -29,11 +29,11 @@ use Rattle.protocols.proofs.Laws.Bounds.{comparison-words, low-lt, s₂₃-lt, s
 
 -- ---- over plain words
 
--- masks b and d that each stand twice
+-- masks b and d cancel, each of which occurs twice
 xor-two_masks : (b d x y z : ℕ) → bit_xor (bit_xor b x) (bit_xor (bit_xor d y) (bit_xor (bit_xor b d) z)) ≡ bit_xor (bit_xor x y) z
 xor-two_masks b d x y z = simp (xor·ac, xor_cancel_l)
 
--- with r in shares q and r xor q
+-- the shares q and r xor q have the value r
 xor_shared : (v r q : ℕ) → bit_xor (bit_xor v q) (bit_xor r q) ≡ bit_xor v r
 xor_shared v r q = simp (xor·ac, xor_self)
 
@@ -53,9 +53,9 @@ nat_eq_same a b c d f g = by_test (eqb c d) refl
     by_test true e = eq-eqb a b (g (eqb-true c d e))
     by_test false e = ne_eqb a b (λ h. eqb-false c d e (f h))
 
--- ---- what the shares held after k rounds combine to
+-- ---- what the miners' shares combine to after k rounds
 
--- in Bits, from words v and r that add up to x
+-- in Bits, for words v and r that add up to x
 record StateHasCarries (n k x : ℕ) (h : CarryState) : Type 0 where
   v : ℕ
   r : ℕ
@@ -66,7 +66,7 @@ record StateHasCarries (n k x : ℕ) (h : CarryState) : Type 0 where
   s_is : xor_of h.s ≡ carry_s (width n) k (bit_xor v r) (bit_and v r)
   base_is : xor_of h.base ≡ bit_xor v r
 
--- in Equal, from a word e that is all ones exactly when x and y are equal
+-- in Equal, for a word e that is all ones exactly if x and y are equal
 record StateHasFold (n k x y : ℕ) (h : FoldState) : Type 0 where
   e : ℕ
   e_word : e < modulus n
@@ -83,7 +83,7 @@ module _ (n : ℕ) where
   two-le : 2 ≤ m
   two-le = pow_mono (pow_pos n)
 
-  -- ---- shares of three miners, dealt to two
+  -- ---- three shares, of which the first is dealt to the other two miners
 
   dealt-sum : (a b c r : ℕ) → add m (add m b r) (add m c (sub m a r)) ≡ sum_of m (shares a b c)
   dealt-sum a b c r =
@@ -130,7 +130,7 @@ module _ (n : ℕ) where
 
   -- ---- Bits
 
-  -- the opened word v and the drawn word r
+  -- v and the random word r add up to the value
   exchanged_sum-sum : (u : Shares) (t : Tapes) → add m (exchanged_sum m (dealing m u t)) (word t one 0) ≡ sum_of m u
   exchanged_sum-sum u t =
       let r = word t one 0 in
@@ -190,7 +190,7 @@ module _ (n : ℕ) where
 
   -- ---- Equal
 
-  -- shares 2 and 3 differ as the sums do
+  -- shares 2 and 3 of p differ as the two values do
   comparison_r : (x : Operands) (t : Tapes)
       → (q : ℕ) × (k : ℕ) × ((comparison m x t).two + sum_of m x.v + q * m ≡ (comparison m x t).three + sum_of m x.u + k * m)
   comparison_r x t =

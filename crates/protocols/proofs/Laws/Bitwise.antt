@@ -114,7 +114,7 @@ xor_assoc a b c =
 pub xor-left_comm : (a b c : ℕ) → bit_xor a (bit_xor b c) ≡ bit_xor b (bit_xor a c)
 xor-left_comm a b c = sym (xor_assoc a b c) ∙ ap (λ (x : ℕ). bit_xor x c) (xor_comm a b) ∙ xor_assoc b a c
 
--- what is added twice goes away
+-- what is combined twice cancels
 pub xor_cancel : (a b : ℕ) → bit_xor (bit_xor a b) b ≡ a
 xor_cancel a b = rw (xor_assoc a b b, xor_self b) (xor_zero_r a)
 
@@ -138,7 +138,7 @@ and_xor a b c =
 pub xor-and : (a b c : ℕ) → bit_and (bit_xor a b) c ≡ bit_xor (bit_and a c) (bit_and b c)
 xor-and a b c = and_comm (bit_xor a b) c ∙ and_xor c a b ∙ ap₂ bit_xor (and_comm c a) (and_comm c b)
 
--- sorts a sum of words
+-- orders the parts of an exclusive or
 pub ruleset xor·ac = (xor_assoc, xor_comm, xor-left_comm)
 
 -- ---- a word from its bits

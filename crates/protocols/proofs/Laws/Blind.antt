@@ -1,4 +1,4 @@
--- Each protocol is blind for a miner, for the controller, and for a miner that is controller too.
+-- Each protocol is blind for a miner, for the controller, and for a miner that is the controller too.
 pub mod Compose
 pub mod Miner
 pub mod Cover

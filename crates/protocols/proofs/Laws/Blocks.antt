@@ -1,4 +1,4 @@
--- Blocks of words: their lengths and bounds, and what is cut off, left and joined again.
+-- Blocks of words: their lengths and bounds, how they are cut and joined.
 use Rattle.std.proofs.Common.{◌≡◌, ℕ, zero, suc, ◌+◌, ◌<◌, ◌≤◌, List, [], ◌∷◌, ◌++◌, length, get_or, take, drop, refl, ap, arith, length-append, length-drop, take-append-drop, length-take, length-take-le, drop-drop, take_at, drop_at}
 use Rattle.protocols.specs.declared.place.Party.{Party}
 use Rattle.protocols.specs.declared.place.Party.TheVariants.{Provider, One, Two, Three}
@@ -32,7 +32,7 @@ words-drop m n k l h = record { long = rw length-drop (omega (arith, h.long)); b
 pub words_append : (m n k : ℕ) (l r : List ℕ) → Words m n l → Words m k r → Words m (n + k) (l ++ r)
 words_append m n k l r hl hr = record { long = rw length-append (omega (arith, hl.long, hr.long)); below = below-append m l r hl.below hr.below }
 
--- a word of a list of words
+-- a word of a list of words is below m
 pub word_lt : {m n : ℕ} (l : List ℕ) (k : ℕ) → Words m n l → k < n → get_or l k 0 < m
 word_lt [] k h i = absurd (omega (arith, h.long, i))
 word_lt (a ∷ l) zero h i = h.below.0
@@ -43,7 +43,7 @@ word_lt {m} {n} (a ∷ l) (suc k) h i = word_lt l k (record { long = refl; below
 pub tapes_ext : (a b : Tapes) → ((p : Party) → tape p a ≡ tape p b) → a ≡ b
 tapes_ext a b e = λ i. tapes (e Provider i) (e One i) (e Two i) (e Three i)
 
--- the words of the one and then those of the other
+-- the words of a, then those of b
 abbrev pub join : Tapes → Tapes → Tapes
 join a b = tapes (a.provider ++ b.provider) (a.one ++ b.one) (a.two ++ b.two) (a.three ++ b.three)
 
@@ -111,7 +111,7 @@ module _ (m : ℕ) where
   block_contents d p t b h Two = next_words t.two p.drawn.two d.two (b Two) (h Two)
   block_contents d p t b h Three = next_words t.three p.drawn.three d.three (b Three) (h Three)
 
--- a block is what is cut off the words that are left, and the rest is left after it
+-- a block is cut from the words that are left, and the rest is left after it
 pub block-cut : (d : Drawn) (p : Place) (t : Tapes) → block d p t ≡ cut d (rest p.drawn t)
 unfolding block
 block-cut d p t = refl
@@ -125,7 +125,7 @@ rest-rest d n t = tapes_ext (rest d (rest n t)) (rest (plus n d) t) parts
     parts Two = drop-drop d.two n.two t.two
     parts Three = drop-drop d.three n.three t.three
 
--- a block is told by the words drawn before it
+-- a block depends on the place only by the words drawn before it
 pub block_same : (d : Drawn) (p q : Place) (t : Tapes) → p.drawn ≡ q.drawn → block d p t ≡ block d q t
 unfolding block
 block_same d p q t e = ap (λ (n : Drawn). cut d (rest n t)) e

@@ -1,4 +1,4 @@
--- Shares and words that the steps make are words.
+-- The shares and words that the steps make are words below m.
 use Rattle.std.proofs.Common.{ℕ, zero, suc, ◌^◌, ◌<◌, mod-lt, zero-lt-suc, arith, pow_pos}
 use lib.Bits.{bit_xor, xor_lt, and_lt}
 use Rattle.protocols.specs.declared.place.Party.TheVariants.{One, Two, Three}
@@ -30,7 +30,7 @@ module _ {m : ℕ} where
   words-three f g h two = g
   words-three f g h three = h
 
-  -- words k of the miners' tapes
+  -- word k of each miner's tape
   pub drawn-words : {n : ℕ} {t : Tapes} (k : ℕ) → k < n → Contents m (counts 0 n n n) t → SharesAreWords m (words t k)
   drawn-words {t = t} k l h = words-three (word_lt t.one k (h One) l) (word_lt t.two k (h Two) l) (word_lt t.three k (h Three) l)
 
@@ -89,7 +89,7 @@ module _ (w : ℕ) where
         bar3 = xor_lt w _ _ (drawn 0 (omega arith)) (drawn 2 (omega arith));
       }
 
-  -- and the shares that they make of it
+  -- the shares that they make from it
   exchanged_sum-lt : (d : Dealing) → exchanged_sum (2 ^ w) d < 2 ^ w
   exchanged_sum-lt d = add-lt (2 ^ w) (pow_pos w) d.v2 d.v3
 

@@ -1,4 +1,4 @@
--- The rounds of Bits on plain words leave the carries of a sum.
+-- The carry rounds on plain words leave the carries of a sum.
 use Rattle.std.proofs.Common.{◌≡◌, ℕ, zero, suc, ◌+◌, ◌*◌, ◌/◌, ◌%◌, ◌^◌, ◌<◌, sym, ap, ◌∙◌, ap₂, ⊎_elim, le_trans, lt_trans, mod-lt, div-lt_iff_lt-mul, add-mul, pow-suc, zero-mul, mul-one, div-one, mul-div_cancel, one-add, arith, pow_pos}
 use native.Mathlib.Nat.{mod-one, div-eq_of_lt, div-div-eq-div-mul, add-mul-div_right, mul-mod_left}
 use lib.Arith.{digits_mod, digits_div}
@@ -23,7 +23,7 @@ carry_zero : (a b : ℕ) → carry a b 0 ≡ 0
 unfolding carry
 carry_zero a b = rw (mod-one a, mod-one b)
 
--- three words added: a word of carries and a word without
+-- three words added: the carries, and the sum without carries
 add-three : (x y c : ℕ) → bit_xor (bit_and x y) (bit_and (bit_xor x y) c) * 2 + bit_xor (bit_xor x y) c ≡ c + (x + y)
 add-three x y c = omega (arith, xor_add_and x y, xor_add_and (bit_xor x y) c, xor_disjoint (bit_and x y) (bit_and (bit_xor x y) c) disjoint)
   where
@@ -75,7 +75,7 @@ unfoldable pub carry_s : ℕ → ℕ → ℕ → ℕ → ℕ
 carry_s w zero p s = s
 carry_s w (suc k) p s = round_s w k (carry_p w k p) 0 (carry_s w k p s) 0
 
--- C j is the carry into position j; s and p tell the carry out of it from the carry into its run of 2 ^ k positions
+-- C j is the carry into position j; s and p give the carry out of j from the carry into j's run of 2 ^ k positions
 unfoldable CarriesOut : ℕ → (ℕ → ℕ) → ℕ → ℕ → ℕ → Type 0
 CarriesOut w C k p s = (j : ℕ) → j < w → C (suc j) ≡ bit_xor (bit_at s j) (bit_and (bit_at p j) (C (start k j)))
 
@@ -129,7 +129,7 @@ bit-up_zero : (w x : ℕ) → 0 < w → bit_at (shift_up w x) 0 ≡ 0
 unfolding shift_up
 bit-up_zero w x l = bit-mod (x * 2) w 0 l ∙ bit_0 (x * 2) ∙ mul-mod_left x 2
 
--- the sum is the two words and the carries, shifted up by one, added without carry
+-- a sum is the two words and the carries shifted up by one bit, combined by exclusive or
 pub carry_sum : (n v r : ℕ) → v < modulus n → r < modulus n
     → bit_xor (bit_xor v r) (shift_up (width n) (carry_s (width n) n (bit_xor v r) (bit_and v r))) ≡ add (modulus n) v r
 unfolding add

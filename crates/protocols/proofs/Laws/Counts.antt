@@ -58,7 +58,7 @@ due-list_lengths controller l = refl
 abbrev Long : Received → Lists → Type 0
 Long k l = (r : Receiver) → length (list r l) ≡ count_for r k
 
--- lists are as long as they are: for lists of fixed shape the counts compute
+-- each list has its own length: for lists of fixed shape the counts compute
 own_long : (l : Lists) → Long (received_counts (length l.one) (length l.two) (length l.three) (length l.controller)) l
 own_long l (miner one) = refl
 own_long l (miner two) = refl
@@ -218,7 +218,7 @@ module _ (m : ℕ) (two-le : 2 ≤ m) where
       m₁₃-word : (u : Shares) (t : Tapes) → m₁₃ m (bits_at j u) t < m
       m₁₃-word u t = sub-lt m pos (bit_xor (b t) (bit_at u.one j)) (m₁₂ t)
 
--- ---- what is held in the rounds of Bits and Equal: every share is a word
+-- ---- what the miners hold in the rounds of Bits and Equal: every share is a word
 
 pub record CarryStateWords (m : ℕ) (h : CarryState) : Type 0 where
   pub p : SharesAreWords m h.p

@@ -1,4 +1,4 @@
--- Deliveries: an answer's words at the front of the lent lists.
+-- Deliveries: the received words at the fronts of the lent lists.
 use Rattle.std.proofs.Common.{◌≡◌, ℕ, ◌<◌, ◌≤◌, Bool, true, false, ◌&&◌, leb, List, [], ◌∷◌, ◌++◌, length, drop, drop_of_length-le, append-nil, sym, refl, ap, ◌∙◌, subst, zero-add, arith, le-leb, leb-true}
 use borrow.Author.Tests.{lt-leb}
 use lib.Dec.{leb-zero}
@@ -41,7 +41,7 @@ has_room a b c x y z h =
     let f = both (leb b y) (leb c z) e.1 in
     (leb-true a x e.0, leb-true b y f.0, leb-true c z f.1)
 
--- counts for the three miners
+-- room for the counts of the three miners
 pub due_fits : (a b c : ℕ) (l : Lists) → HaveRoom a b c l → (r : Receiver) → count_for r (received_counts a b c 0) ≤ length (list r l)
 due_fits a b c l h (miner one) = h.0
 due_fits a b c l h (miner two) = h.1
@@ -79,7 +79,7 @@ module _ {S : Type 0} (f : Protocol S Shares) (n : Drawn) (drawn : f.draws ≡ n
       let b = block f.draws p t in
       delivery_full f s p t l (rw drawn e) (rw (long s b controller, long s b (miner one), long s b (miner two), long s b (miner three)) g)
 
--- ---- what a delivery is
+-- ---- the cases of a delivery
 
 room_false : (l w : Lists) (r : Receiver) → length (list r l) < length (list r w) → have_room_for l w ≡ false
 room_false l w (miner one) h = rw (lt-leb (length w.one) (length l.one) h, and-false (leb (length w.controller) (length l.controller)))
@@ -105,7 +105,7 @@ delivers p l s w q = record {
     begins (miner three) h = begins_with l.three w.three h
     begins controller h = begins_with l.controller w.controller h
 
--- words that stand for the front of each list
+-- n words in place of a list's first n
 in_place : (l a : List ℕ) (n : ℕ) → length a ≡ n → n ≤ length l → a ++ drop n l ≡ sets l 0 a
 in_place l a n e h = ap (λ (k : ℕ). a ++ drop k l) (sym e) ∙ sym (begins_with l a (omega (arith, e, h)))
 
@@ -117,7 +117,7 @@ fronts_written l w k long fits {a} {b} {c} e =
     (in_place l.three c k.three (ap (λ (x : Lists). length x.three) e ∙ long (miner three)) (fits (miner three)) i) l.controller)
     ∙ ap (with_fronts l) e
 
--- lists of just as many words are those words
+-- words as many as the list has replace all of it
 all_of : (l w : List ℕ) → length w ≡ length l → sets l 0 w ≡ w
 all_of l w e = begins_with l w (omega (arith, e)) ∙ rw (drop_of_length-le l {i = length w} (omega (arith, e)), append-nil) refl
 
@@ -142,7 +142,7 @@ delivery-silence x p q l = rw (room_true l silence (λ r. none r))
     none (miner three) = omega arith
     none controller = omega arith
 
--- any list may stand for the controller's, or miner 1's, if no word is for it
+-- the controller's list, or miner 1's, may be any list if no word is for it
 module _ {S : Type 0} (f : Protocol S Shares) (s : S) (p : Place) (t : Tapes) (a b c d : List ℕ) (o : Outcome) where
   pub controller_kept : {x y z : List ℕ} → ((v : Tapes) → length (list controller (f.received s v)) ≡ 0) → delivery_of o (lists x y z []) ≡ delivery p (perform f s p t) (lists a b c [])
       → delivery_of o (lists x y z d) ≡ delivery p (perform f s p t) (lists a b c d)

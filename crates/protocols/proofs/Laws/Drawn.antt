@@ -1,4 +1,4 @@
--- Protocols on the words that they draw, all at once.
+-- Protocols on the block of all words that they draw.
 use Rattle.std.specs.Prelude.{Option, Some, None, unwrap_or}
 use Rattle.std.specs.Borrow.{Bor}
 use Rattle.std.proofs.Common.{◌≡◌, ℕ, ◌+◌, ◌*◌, ◌<◌, ◌≤◌, Bool, true, false, cond, List, [], ◌∷◌, ◌++◌, length, get_or, take, drop, take_all, sym, refl, ap, ◌∙◌, arith, length-drop, drop_of_length-le, get_or-drop, add-zero}
@@ -48,7 +48,7 @@ module _ (n : Drawn) (p : Place) (t : Tapes) where
   spent_by false z = refl
   spent_by true z = absurd (omega (arith, ap (λ (d : Draw Tapes). d.number) z))
 
-  -- by the code's answer r
+  -- from the code's answer r
   module _ {r : Option ((Bor (List ℕ) × Bor (List ℕ) × Bor (List ℕ)) × Place)} where
     pub block_drawn : {a b c : Bor (List ℕ)} {q : Place} → r ≡ Some ((a, b, c), q) → draw_answer p (lent_blocks r) ≡ draw_block n p t
         → (enough n p t ≡ true) × (tapes [] a.now b.now c.now ≡ block n p t) × (q ≡ advance p n)
@@ -59,7 +59,7 @@ module _ (n : Drawn) (p : Place) (t : Tapes) where
     unfolding draw_block
     block_spent z e = spent_by (enough n p t) (sym e ∙ rw z)
 
--- what a protocol delivers of a drawn block
+-- what a protocol delivers from a drawn block
 module _ {S : Type 0} (f : Protocol S Shares) (n : Drawn) (draws : f.draws ≡ n) (s : S) (p : Place) (t : Tapes) where
   module _ {r : Option ((Bor (List ℕ) × Bor (List ℕ) × Bor (List ℕ)) × Place)} where
     pub spent_delivers : r ≡ None → draw_answer p (lent_blocks r) ≡ draw_block n p t → (l : Lists)
@@ -79,7 +79,7 @@ module _ {S : Type 0} (f : Protocol S Shares) (n : Drawn) (draws : f.draws ≡ n
         let made : Performance f s p t l₀ x l k q = record { words = f.received s w; is = is; are = h.1; long = long s w } in
         delivery-done f s p t made room
 
--- ---- on a block of words: tapes of these words alone, from their start
+-- ---- on a block: tapes of its words alone, from their start
 
 -- the place after j words of miner 1's and k of each other's, from the block's start
 abbrev pub within : ℕ → ℕ → Place
@@ -125,13 +125,13 @@ module _ (w : Tapes) where
           block-word 2 k 1 w.three (omega arith),
         ))
 
--- a block of exactly the words that are drawn
+-- a block of exactly the drawn words is the whole tapes
 pub block-whole : (a b c : ℕ) (w : Tapes) → Block a b c w → block (counts 0 a b c) (within 0 0) w ≡ w
 unfolding block
 block-whole a b c w h = tapes_ext (block (counts 0 a b c) (within 0 0) w) w
     (elim [ Provider ↦ sym h.0 | One ↦ take_all a w.one (omega (arith, h.1)) | Two ↦ take_all b w.two (omega (arith, h.2)) | Three ↦ take_all c w.three (omega (arith, h.3)) ])
 
--- what is performed on it
+-- what a protocol makes of it
 pub block-done : {S T : Type 0} (f : Protocol S T) (s : S) (w : Tapes) {l₀ l : Lists} {x : T} {k : Received} {q : Place} → block f.draws (within 0 0) w ≡ w
     → Performance f s (within 0 0) w l₀ x l k q → (x ≡ f.result s w) × (l ≡ with_fronts l₀ (f.received s w))
 unfolding perform
@@ -153,9 +153,9 @@ block-done {T = T} f s w {l₀} {l} {x} {q = q} e d = go (enough f.draws (within
     go true z = (sym (ap made z), d.are ∙ ap (with_fronts l₀) (sym (ap sent z)))
     go false z = absurd (omega (arith, ap number z))
 
--- ---- Bits, on the words that it draws
+-- ---- Bits, on its drawn words
 
--- the dealing and k rounds are done, on so many of the words
+-- the dealing and k rounds are done, on the words that they draw
 abbrev pub RoundsDone : Shares → Tapes → Lists → ℕ → CarryState → Lists → Type 0
 RoundsDone u w l₀ k h l = Performance (rounds 5 k) u (within 0 0) w l₀ h l (bits_code.received_before k) (within (5 + 2 * k) (2 + 2 * k))
 
@@ -209,9 +209,9 @@ module _ (u : Shares) (w : Tapes) (long : Block 15 12 12 w) (l₀ : Lists) where
       } in
       block-done (bits 5) u w whole made
 
--- ---- Equal up to its folds, on the words that they draw
+-- ---- Equal up to its last fold round, on its drawn words
 
--- the comparison and k folds are done, on so many of the words
+-- the comparison and k rounds are done, on the words that they draw
 abbrev pub FoldsDone : Operands → Tapes → Lists → ℕ → FoldState → Lists → Type 0
 FoldsDone x w l₀ k h l = Performance (folds 5 k) x (within 0 0) w l₀ h l (equal_code.received_before k) (within (2 + k) (1 + k))
 
@@ -266,7 +266,7 @@ module _ (x : Operands) (w : Tapes) (long : Block 7 6 6 w) (l₀ : Lists) where
       let whole : block (folds 5 5).draws (within 0 0) w ≡ w = rw folds_draw (block-whole 7 6 6 w long) in
       block-done (folds 5 5) x w whole d
 
--- ---- Bit as the last part: on the last three words of miner 1's, and on the tails of lists 2 and 3
+-- ---- Bit as the last part: on the last three words of miner 1, and on the tails of lists 2 and 3
 
 module _ (m j : ℕ) (l₀ l : Lists) (w : Lists) (k : Received) (long : (r : Receiver) → length (list r w) ≡ count_for r k) (are : l ≡ with_fronts l₀ w)
     (room : (r : Receiver) → count_for r (plus_received k (received_counts 0 3 3 0)) ≤ length (list r l₀)) where
@@ -283,7 +283,7 @@ module _ (m j : ℕ) (l₀ l : Lists) (w : Lists) (k : Received) (long : (r : Re
       ∙ ap (λ (x : Lists). with_words_at k x w') are
       ∙ fronts_puts l₀ w w' k long
 
-  -- the tails being the last three words of lists of just so many
+  -- where these tails are the last three entries of their lists
   pub bit_last : length l₀.two ≡ k.two + 3 → length l₀.three ≡ k.three + 3 → (y : Shares) (v : Tapes) {a b : List ℕ}
       → lists [] a b [] ≡ with_fronts (lists [] (take 3 (drop k.two l.two)) (take 3 (drop k.three l.three)) []) ((bit m j).received y v)
       → lists l.one (take k.two l.two ++ (a ++ drop 3 (drop k.two l.two))) (take k.three l.three ++ (b ++ drop 3 (drop k.three l.three))) l.controller
@@ -294,7 +294,7 @@ module _ (m j : ℕ) (l₀ l : Lists) (w : Lists) (k : Received) (long : (r : Re
       rw (all_back l.two k.two 3 a two_long, all_back l.three k.three 3 b three_long)
       (bit_behind y v (rw (all_lent l.two k.two 3 two_long, all_lent l.three k.three 3 three_long) at h))
 
--- of a block, the first j words of miner 1's with all of the others'; and the last three of miner 1's
+-- miner 1's first j words with all words of the others, and miner 1's three words from j on
 abbrev pub first_words : ℕ → Tapes → Tapes
 first_words j w = tapes [] (take j w.one) w.two w.three
 

@@ -1,4 +1,4 @@
--- Draws: one tape after the other is the same as a block, and a block after a block is one block.
+-- Draws: one tape after the other is one block, and a block after a block is one block.
 use Rattle.std.specs.Prelude.{Some, None}
 use Rattle.std.proofs.Common.{◌≡◌, ℕ, zero, suc, ◌+◌, ◌-◌, ◌<◌, ◌≤◌, Bool, true, false, cond, ◌&&◌, leb, List, [], ◌++◌, length, get_or, take, drop, refl, sym, ap, ◌∙◌, append-nil, add-zero, add_assoc, arith, length-drop, drop_of_length-le, length-take-le, get_or-drop, take_all, get_or-take, take-take, drop-drop, take-add, drop_at, le-leb, leb-false, leb-true}
 use borrow.Author.Tests.{lt-leb}
@@ -56,7 +56,7 @@ pub enough_false : (n : Drawn) (p : Place) (t : Tapes) (i : Party) → length (t
 unfolding enough
 enough_false n p t i h = every_false (tape_has n p t) i (lt-leb (count i n) (length (tape i t) - count i p.drawn) h)
 
--- the miners' tapes alone
+-- only the miners' tapes
 pub enough_miners : (a b c : ℕ) (p : Place) (t : Tapes)
     → enough (counts 0 a b c) p t ≡ leb a (length t.one - p.drawn.one) && (leb b (length t.two - p.drawn.two) && leb c (length t.three - p.drawn.three))
 unfolding enough
@@ -64,7 +64,7 @@ enough_miners a b c p t = rw leb-zero
 
 -- ---- tapes that are not drawn from
 
--- tapes that agree where words are drawn
+-- tapes that agree wherever words are drawn
 abbrev pub Agree : Drawn → Tapes → Tapes → Type 0
 Agree n t t' = (i : Party) → 0 < count i n → tape i t ≡ tape i t'
 
@@ -165,7 +165,7 @@ block-word n d k l h = get_or-take n (drop d l) k 0 h ∙ get_or-drop d l k 0
 pub block-first : (n d : ℕ) (l : List ℕ) → 0 < n → get_or (take n (drop d l)) 0 0 ≡ get_or l d 0
 block-first n d l h = block-word n d 0 l h ∙ ap (λ (k : ℕ). get_or l k 0) (add-zero d)
 
--- word k of a party's part of a block is the word of its tape that is k words behind the place
+-- word k of a party's part of a block is word k of its tape after the place
 pub block_words : (n : Drawn) (p : Place) (t : Tapes) (i : Party) (k : ℕ) → k < count i n
     → get_or (tape i (block n p t)) k 0 ≡ get_or (tape i t) (count i p.drawn + k) 0
 unfolding block
@@ -174,13 +174,13 @@ block_words n p t One k h = block-word n.one p.drawn.one k t.one h
 block_words n p t Two k h = block-word n.two p.drawn.two k t.two h
 block_words n p t Three k h = block-word n.three p.drawn.three k t.three h
 
--- ---- words drawn of one tape after the other make up a block
+-- ---- draws from one tape after the other make up a block
 
--- what follows a draw
+-- what is done with a draw
 abbrev pub after : {T A : Type 0} → Draw T → (T → Place → A) → A → A
 after d k z = elim d.words [ Some x ↦ k x d.place | None ↦ z ]
 
--- a draw by what is left of the tape
+-- a draw from what is left of the tape
 module _ (k : ℕ) (i : Party) (l : List ℕ) (p : Place) where
   pub draw_none : length (drop (count i p.drawn) l) < k → draw k i l p ≡ spent_draw p
   unfolding draw
@@ -200,7 +200,7 @@ draw_is k i l p = record {
   spent_answered = refl;
 }
 
--- words of one tape alone
+-- words of one tape only
 abbrev pub only : Party → ℕ → Drawn
 only i k = with_count i k (counts 0 0 0 0)
 
@@ -269,7 +269,7 @@ module _ (p : Place) (t : Tapes) where
         go true e true f false g = rw (enough_miners a b c p t, e, f, g)
         go true e true f true g = rw (enough_miners a b c p t, e, f, g) (cc (add-zero p.drawn.provider))
 
-  -- what is taken of a block, where it is drawn
+  -- a part of a drawn block
   of_block : {T : Type 0} (n : Drawn) (part : Tapes → T) → draw_part n part p t ≡ after (draw_block n p t) (λ w q. draw_of (part w) q) (spent_draw p)
   unfolding draw_block
   of_block {T} n part = go (enough n p t)
@@ -279,7 +279,7 @@ module _ (p : Place) (t : Tapes) where
       go true = refl
       go false = refl
 
-  -- a word of each miner, and two, are of a block of them
+  -- one word and two words of each miner are parts of a block
   pub each_of_block : draw_each p t ≡ after (draw_block (counts 0 1 1 1) p t) (λ w q. draw_of (words w 0) q) (spent_draw p)
   unfolding draw_each
   each_of_block = of_block (counts 0 1 1 1) (λ w. words w 0)

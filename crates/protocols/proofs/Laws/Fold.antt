@@ -1,4 +1,4 @@
--- The rounds of Equal on plain words: bit 0 tells whether every bit is set.
+-- The fold rounds on plain words: bit 0 is 1 exactly if every bit was 1.
 use Rattle.std.proofs.Common.{◌≡◌, ℕ, zero, suc, ◌+◌, ◌-◌, ◌*◌, ◌/◌, ◌%◌, ◌^◌, ◌<◌, ◌≤◌, cond, eqb, sym, refl, ap, ◌∙◌, ap₂, mod-lt, mod-eq_of_lt, div-one, one-add, arith, pow_pos, shr-shr, eq-eqb, ne_eqb}
 use native.Mathlib.Nat.{zero-mod, add-mod_right, two-pow-succ}
 use native.Mathlib.Decide.{ℕ_discrete}
@@ -14,7 +14,7 @@ unfoldable pub fold_plain : ℕ → ℕ → ℕ → ℕ
 fold_plain w zero x = x
 fold_plain w (suc k) x = fold_share w k (fold_plain w k x) 0
 
--- ---- 1 where the m bits from position j on are all set, and otherwise 0
+-- ---- 1 if the m bits from position j on are all 1, else 0
 
 abbrev same : ℕ → ℕ → ℕ
 same x y = cond (eqb x y) 1 0
@@ -41,7 +41,7 @@ ones_double x j m =
     ap₂ same (mod-pow-add (x / 2 ^ j) m m ∙ ap (λ (y : ℕ). y % 2 ^ m * 2 ^ m + x / 2 ^ j % 2 ^ m) (shr-shr x j m)) (ones_split m m)
     ∙ same_halves m (x / 2 ^ (j + m) % 2 ^ m) (x / 2 ^ j % 2 ^ m) (2 ^ m - 1) (mod-lt (x / 2 ^ j) (pow_pos m)) (ones_lt m)
 
--- ---- each round takes two runs of set bits together
+-- ---- each round joins two runs of bits
 
 bit_fold_plain : (w x k j : ℕ) → j % 2 ^ k ≡ 0 → j + 2 ^ k ≤ w → bit_at (fold_plain w k x) j ≡ ones x j (2 ^ k)
 unfolding fold_plain

@@ -98,7 +98,7 @@ pub fold_performs : (n k : ℕ) (h : FoldState) (p : Place) (t : Tapes) → perf
 unfolding fold
 fold_performs n k h p t = by_each (equal.after_round (width n) k) equal.sent_in_round h p t
 
--- ---- the room of lent lists
+-- ---- room in the lent lists
 
 pub rooms : (a b c : ℕ) (l : Lists) → have_room l (received_counts a b c 0) ≡ true → HaveRoom a b c l
 rooms a b c l h = has_room a b c (length l.one) (length l.two) (length l.three) ((both (leb 0 (length l.controller)) _ h).1)

@@ -1,4 +1,4 @@
--- Protocols on lent tapes in general: by their draws, one after the other, in rounds, and their outcomes.
+-- Protocols on lent tapes in general: their draws, one after the other, in rounds, and what they leave.
 use Rattle.std.proofs.Common.{◌≡◌, ℕ, ◌+◌, ◌-◌, ◌≤◌, Bool, true, false, cond, ◌&&◌, leb, List, length, take, drop, refl, ap, ◌∙◌, ap₂, append-nil, add-zero, add-one, arith, length-append}
 use Rattle.protocols.specs.declared.place.Party.{Party}
 use Rattle.protocols.specs.declared.place.Party.TheVariants.{Provider, One, Two, Three}
@@ -20,7 +20,7 @@ use Rattle.protocols.proofs.Laws.Draws.{after, only, enough_only, block_only, ad
 -- ---- a protocol by its draws
 
 module _ {S T : Type 0} where
-  -- a word by each miner
+  -- one word of each miner's tape
   pub by_each : (R : S → Shares → T) (L : S → Shares → Lists) (s : S) (p : Place) (t : Tapes)
       → perform (record { draws = counts 0 1 1 1; result = λ s b. R s (words b 0); received = λ s b. L s (words b 0) }) s p t
       ≡ after (draw_each p t) (λ r q. done (R s r) (L s r) q) spent
@@ -37,7 +37,7 @@ module _ {S T : Type 0} where
       go true = refl
       go false = refl
 
-  -- two words by each miner
+  -- two words of each miner's tape
   pub by_pairs : (R : S → Shares → Shares → T) (L : S → Shares → Shares → Lists) (s : S) (p : Place) (t : Tapes)
       → perform (record { draws = counts 0 2 2 2; result = λ s b. R s (words b 0) (words b 1); received = λ s b. L s (words b 0) (words b 1) }) s p t
       ≡ after {T = Shares × Shares} (draw_pairs p t) (λ x q. done (R s x.0 x.1) (L s x.0 x.1) q) spent
@@ -55,7 +55,7 @@ module _ {S T : Type 0} where
       go true = refl
       go false = refl
 
-  -- k words by one party
+  -- k words of one party's tape
   pub by_words : (i : Party) (k : ℕ) (R : S → List ℕ → T) (L : S → List ℕ → Lists) (s : S) (p : Place) (t : Tapes)
       → perform (record { draws = only i k; result = λ s b. R s (tape i b); received = λ s b. L s (tape i b) }) s p t
       ≡ after (draw k i (tape i t) p) (λ w q. done (R s w) (L s w) q) spent
@@ -80,7 +80,7 @@ module _ {S T : Type 0} (f : Protocol S T) (s : S) (p : Place) (t : Tapes) where
 
 -- ---- one protocol after another
 
--- what follows an answer, and words before an answer's
+-- what follows an answer, and words before those of an answer
 abbrev pub and_then : {S T : Type 0} → ProtocolAnswer S → (S → Lists → Place → ProtocolAnswer T) → ProtocolAnswer T
 and_then (done s l q) k = k s l q
 and_then spent k = spent
@@ -90,7 +90,7 @@ words_before l (done s k q) = done s (l followed_by k) q
 words_before l spent = spent
 
 module _ {S T Z : Type 0} (f : Protocol S T) (g : Protocol T Z) (s : S) (p : Place) (t : Tapes) where
-  -- both done, on their two blocks
+  -- f and g done, each on its block
   both-done : Tapes → Tapes → Place → ProtocolAnswer Z
   both-done b d q = done (g.result (f.result s b) d) (f.received s b followed_by g.received (f.result s b) d) q
 
@@ -124,7 +124,7 @@ module _ {S T Z : Type 0} (f : Protocol S T) (g : Protocol T Z) (s : S) (p : Pla
       first true = second (enough g.draws q t)
       first false = refl
 
--- a local step draws nothing and sends nothing
+-- a local step draws and sends nothing
 advance_none : (p : Place) → advance p (counts 0 0 0 0) ≡ p
 advance_none p =
     let n = p.drawn in
@@ -144,7 +144,7 @@ perform-locally f s p t =
 -- ---- parts done or spent
 
 module _ {S T Z : Type 0} (f : Protocol S T) (g : Protocol T Z) (s : S) (p : Place) (t : Tapes) where
-  -- from a part that is done the whole goes on
+  -- if the first part is done, the whole goes on
   pub then_done : {x : T} {l : Lists} {q : Place} → perform f s p t ≡ done x l q → perform (f then g) s p t ≡ words_before l (perform g x q t)
   then_done e = perform_then f g s p t ∙ ap (λ (a : ProtocolAnswer T). and_then a (λ x l q. words_before l (perform g x q t))) e
 
@@ -163,7 +163,7 @@ perform_agree f s p t t' h = rw (enough_agree f.draws p t t' h, block_agree f.dr
 pub followed_by_silence : (l : Lists) → l followed_by silence ≡ l
 followed_by_silence l = λ i. lists (append-nil l.one i) (append-nil l.two i) (append-nil l.three i) (append-nil l.controller i)
 
--- f is done: the miners hold x, its words, k of them, have made l of the lists l₀, and the place is q
+-- f is done: the miners hold x, its words, which k counts, made l from the lists l₀, and the place is q
 pub record Performance {S T : Type 0} (f : Protocol S T) (s : S) (p : Place) (t : Tapes) (l₀ : Lists) (x : T) (l : Lists) (k : Received) (q : Place) : Type 0 where
   pub words : Lists
   pub is : perform f s p t ≡ done x words q

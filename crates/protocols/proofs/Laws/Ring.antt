@@ -4,7 +4,7 @@ use native.Mathlib.Nat.{add-mul-mod_self_right}
 use Rattle.protocols.specs.Word.{add, sub, mul}
 
 module _ (m : ℕ) (pos : 0 < m) where
-  -- two words that differ by multiples of m are one
+  -- two words that differ by multiples of m are equal
   pub same-mod : (x y a b : ℕ) → x < m → y < m → x + a * m ≡ y + b * m → x ≡ y
   same-mod x y a b hx hy e = sym (mod-eq_of_lt hx) ∙ sym (add-mul-mod_self_right x a m) ∙ ap (λ (n : ℕ). n % m) e ∙ add-mul-mod_self_right y b m ∙ mod-eq_of_lt hy
 
@@ -20,7 +20,7 @@ module _ (m : ℕ) (pos : 0 < m) where
   unfolding mul
   mul-lt a b = mod-lt (a * b) pos
 
-  -- with how many multiples of m: what omega needs to know of a sum and of a difference
+  -- sums and differences with their multiples of m, for omega
   add_q : (a b : ℕ) → (a + b) / m * m + add m a b ≡ a + b
   unfolding add
   add_q a b = div-add-mod' (a + b) m
@@ -29,7 +29,7 @@ module _ (m : ℕ) (pos : 0 < m) where
   unfolding sub
   sub_q a b = omega (arith, div-add-mod' (a + (m - b % m)) m, div-add-mod' b m, mod-lt b pos)
 
-  -- quotients by name
+  -- the same with the quotients named
   pub add_r : (a b : ℕ) → (q : ℕ) × (q * m + add m a b ≡ a + b)
   add_r a b = ((a + b) / m, add_q a b)
 
@@ -50,7 +50,7 @@ module _ (m : ℕ) (pos : 0 < m) where
       let (p', l', f') = sub_r (sub m a c) b in
       same-mod (sub m (sub m a b) c) (sub m (sub m a c) b) (q + q' + l + l') (p + p' + k + k') (sub-lt (sub m a b) c) (sub-lt (sub m a c) b) (omega (arith, e, e', f, f'))
 
-  -- s + r - p, and r back from it
+  -- the mask r, back from s + r - p
   pub mask_from_fresh : (s r p : ℕ) → r < m → sub m (add m (sub m (add m s r) p) p) s ≡ r
   mask_from_fresh s r p h =
       let (q1, e1) = add_r s r in
@@ -71,7 +71,7 @@ module _ (m : ℕ) (pos : 0 < m) where
   unfolding mul
   mul_r a b = ((a * b) / m, div-add-mod' (a * b) m)
 
-  -- u3 + ((u1 - r) - r2), told as a difference from r
+  -- u3 + ((u1 - r) - r2), as a difference from r
   pub regroup : (a b r q : ℕ) → add m a (sub m (sub m b r) q) ≡ sub m (sub m (add m a b) q) r
   regroup a b r q =
       let (k1, l1, e1) = sub_r b r in
@@ -94,7 +94,7 @@ module _ (m : ℕ) (pos : 0 < m) where
       let (q, e) = add_r s (sub m d s) in
       same-mod (add m s (sub m d s)) d (q + k) l (add-lt _ _) h (omega (arith, e, f))
 
-  -- the difference is the one word that b added to makes a
+  -- the difference is the only word that gives a when b is added
   pub sub_unique : (r a b : ℕ) → r < m → a < m → (r + b) % m ≡ a → r ≡ sub m a b
   sub_unique r a b hr ha e =
       let (q, k, f) = sub_r a b in

@@ -13,13 +13,13 @@ use Rattle.protocols.specs.Claims.{RingCombines}
 use Rattle.protocols.proofs.Laws.Ring.{same-mod, add-lt, sub-lt, mul-lt, add_r, sub_r, mul_r}
 
 module _ (m : ℕ) (pos : 0 < m) where
-  -- ---- what three shares add up to
+  -- ---- the sum of three shares
 
   pub sum_lt : (s : Shares) → sum_of m s < m
   unfolding sum_of
   sum_lt s = add-lt m pos (add m s.one s.two) s.three
 
-  -- without multiples of m
+  -- with its multiples of m
   pub sum_r : (s : Shares) → (q : ℕ) × (q * m + sum_of m s ≡ s.one + s.two + s.three)
   unfolding sum_of
   sum_r s =
@@ -27,11 +27,11 @@ module _ (m : ℕ) (pos : 0 < m) where
       let (k, f) = add_r m pos (add m s.one s.two) s.three in
       (q + k, omega (arith, e, f))
 
-  -- a word that differs from the shares' total by multiples of m is what they add up to
+  -- a word that differs from the shares' total by multiples of m is their sum
   pub sum_is : (s : Shares) (x a b : ℕ) → x < m → s.one + s.two + s.three + a * m ≡ x + b * m → sum_of m s ≡ x
   sum_is s x a b h e = let (q, f) = sum_r s in same-mod m pos (sum_of m s) x (q + a) b (sum_lt s) h (omega (arith, e, f))
 
-  -- ---- shares of a word, fresh shares, and shares changed miner by miner
+  -- ---- shares of a word, fresh shares, and local commands
 
   dealt_shares-sum : (v : ℕ) → v < m → (b : Tapes) → sum_of m (dealt_shares m v b) ≡ v
   dealt_shares-sum v h b =
@@ -104,7 +104,7 @@ module _ (m : ℕ) (pos : 0 < m) where
       let (k', f') = add_r m pos (add m (mul m u v) (mul m u v')) (mul m u' v) in
       (q₁ + q₂ + q₃ + k + k', omega (arith, e₁, e₂, e₃, f, f'))
 
-  -- over plain numbers: u, v the sums, a, b their quotients
+  -- over plain numbers: u and v are the sums, a and b their quotients
   nine_terms : (a b u v u₁ u₂ u₃ v₁ v₂ v₃ : ℕ) → a * m + u ≡ u₁ + u₂ + u₃ → b * m + v ≡ v₁ + v₂ + v₃
       → (u₁ * v₁ + u₁ * v₃ + u₃ * v₁) + (u₂ * v₂ + u₂ * v₁ + u₁ * v₂) + (u₃ * v₃ + u₃ * v₂ + u₂ * v₃) ≡ u * v + (a * v + b * u + a * m * b) * m
   nine_terms a b u v u₁ u₂ u₃ v₁ v₂ v₃ e f = omega (arith, ap₂ ◌*◌ e f)

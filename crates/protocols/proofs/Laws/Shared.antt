@@ -1,4 +1,4 @@
--- Words shared by exclusive or: shares of a round, of a fold and of a join, and what they combine to.
+-- Words shared by exclusive or: masks, a shared 'and', the rounds, and what the shares combine to.
 use Rattle.std.proofs.Common.{◌≡◌, ℕ, zero, suc, ◌*◌, ◌%◌, ◌^◌, ◌<◌, sym, refl, ap, ◌∙◌, ap₂, lt_of_le_of_lt, add-zero, mod-lt, pow_pos}
 use mathlib.Core.Path.{fun_ext}
 use lib.Bits.{bit_xor, bit_and, xor_lt, and_le_r, xor_self, xor_zero_r, xor_mod, xor_block, and_zero_r}
@@ -22,7 +22,7 @@ and_share-lt w a a' b b' h h' =
 pub bit_at-and_share : (a a' b b' j : ℕ) → bit_at (and_share a a' b b') j ≡ and_share (bit_at a j) (bit_at a' j) (bit_at b j) (bit_at b' j)
 bit_at-and_share a a' b b' j = simp (bit_at-xor, bit_at-and)
 
--- where the previous miner's shares are 0, it is the 'and' itself
+-- if the previous miner's shares are 0, it is the 'and' itself
 pub and_share_zero : (a i b j : ℕ) → and_share a (bit_at 0 i) b (bit_at 0 j) ≡ bit_and a b
 and_share_zero a i b j = simp (bit_zero, and_zero_r, xor_zero_r)
 
@@ -36,7 +36,7 @@ pub xor-bits_at : (j : ℕ) (u : Shares) → xor_of (bits_at j u) ≡ bit_at (xo
 unfolding xor_of
 xor-bits_at j u = simp bit_at-xor
 
--- each mask stands twice
+-- each mask occurs twice
 masks_cancel : (a b c x y z : ℕ) → bit_xor (bit_xor (bit_xor (bit_xor a x) z) (bit_xor (bit_xor b y) x)) (bit_xor (bit_xor c z) y) ≡ bit_xor (bit_xor a b) c
 masks_cancel a b c x y z = simp (xor·ac, xor_self, xor_cancel_l)
 
@@ -44,7 +44,7 @@ pub xor_masked : (p q : Shares) → xor_of (masked_shares p q) ≡ xor_of p
 unfolding xor_of
 xor_masked p q = masks_cancel p.one p.two p.three q.one q.two q.three
 
--- each miner's exclusive or of its two shares
+-- the exclusive or of each miner's two shares
 abbrev xors : Shares → Shares → Shares
 xors a b = each (λ i. bit_xor (at i a) (at i b))
 
@@ -71,7 +71,7 @@ xor-choose : (c : ℕ) (a b : Shares) → xor_of (each (λ i. choose c (at i a) 
 xor-choose zero a b = refl
 xor-choose (suc c) a b = refl
 
--- shares told position by position combine position by position
+-- shares given position by position combine position by position
 xor_positions : (w : ℕ) (f : Miner → ℕ → ℕ) (g : ℕ → ℕ) → ((i : Miner) (j : ℕ) → f i j < 2) → ((j : ℕ) → xor_of (each (λ i. f i j)) ≡ g j)
     → xor_of (each (λ i. of_bits w (f i))) ≡ of_bits w g
 unfolding xor_of
@@ -119,7 +119,7 @@ module _ (w k p p' : ℕ) where
   unfolding fold_share
   bit-fold_share = bit_of w (fold_at k p p') (fold_at-lt k p p')
 
--- ---- shares of a round combine to the round, with previous shares 0, of what the shares combine to
+-- ---- the shares after a round combine to the round of the combined words, where the previous miner's shares are 0
 
 xor-and-bits : (p s : Shares) (i j : ℕ)
     → xor_of (ands (bits_at i p) (bits_at j s)) ≡ and_share (bit_at (xor_of p) i) (bit_at 0 i) (bit_at (xor_of s) j) (bit_at 0 j)
@@ -152,7 +152,7 @@ module _ (w k : ℕ) (p : Shares) where
       (λ j. xor-choose (j % 2 ^ suc k) (ands (bits_at j p) (bits_at _ p)) (bits_at j p)
       ∙ ap₂ (choose (j % 2 ^ suc k)) (xor-and-bits p p j _) (xor-bits_at j p))
 
--- ---- shifted up by one
+-- ---- shifted up by one bit
 
 pub up_lt : (w x : ℕ) → shift_up w x < 2 ^ w
 unfolding shift_up

@@ -1,4 +1,4 @@
--- The position that a position takes from in a round of Bits, and the runs of positions that it lies in.
+-- The source of a position in a carry round, and the runs of positions that it lies in.
 use Rattle.std.proofs.Common.{◌≡◌, ℕ, suc, ◌+◌, ◌-◌, ◌*◌, ◌/◌, ◌%◌, ◌^◌, ◌<◌, ◌≤◌, sym, ap, ◌∙◌, mul_assoc, mul_comm, add-mul, pow-suc, div-add-mod', div-mul-le_self, mul-div_cancel, add-one, arith, pow_pos, shr-shr}
 use native.Mathlib.Nat.{add-div_left, div-eq_of_lt, mul-mod_left, lt-div-mul-add}
 use lib.Pow.{high, ones_lt}
@@ -9,11 +9,11 @@ use Rattle.protocols.specs.Claims.{SourceIs}
 shr-suc : (x k : ℕ) → x / 2 ^ k / 2 ≡ x / 2 ^ suc k
 shr-suc x k = rw (shr-shr x k 1, add-one)
 
--- where the run of 2 ^ k positions that j is in begins
+-- the start of the run of 2 ^ k positions that j is in
 unfoldable pub start : ℕ → ℕ → ℕ
 start k j = j / 2 ^ k * 2 ^ k
 
--- a run's beginning, in halves of the run
+-- the start of a run, by the halves of the run
 start_even : (k j : ℕ) → start (suc k) j ≡ j / 2 ^ suc k * 2 * 2 ^ k
 unfolding start
 start_even k j = ap (λ (x : ℕ). j / 2 ^ suc k * x) (pow-suc 2 k ∙ mul_comm (2 ^ k) 2) ∙ sym (mul_assoc (j / 2 ^ suc k) 2 (2 ^ k))
@@ -34,7 +34,7 @@ start-clear k j e = omega (arith, rw e at (start_split k j))
 pub start-set : (k j : ℕ) → bit_at j k ≡ 1 → start k j ≡ start (suc k) j + 2 ^ k
 start-set k j e = omega (arith, rw e at (start_split k j))
 
--- ---- a position takes from the last one of its run's lower half
+-- ---- the source is the last position of the run's lower half
 
 pub suc-source : (k j : ℕ) → suc (source k j) ≡ start (suc k) j + 2 ^ k
 unfolding source start
@@ -43,7 +43,7 @@ suc-source k j = omega (arith, pow_pos k, mul_comm (2 ^ suc k) (j / 2 ^ suc k))
 source-shr : (k j : ℕ) → source k j / 2 ^ k ≡ j / 2 ^ suc k * 2
 source-shr k j = ap (λ (x : ℕ). x / 2 ^ k) (omega (arith, suc-source k j, start_even k j, pow_pos k)) ∙ high (j / 2 ^ suc k * 2) k (ones_lt k)
 
--- in the first run, and a run further on
+-- in the first run, and in a later run
 pub source_first : (k j : ℕ) → j < 2 ^ suc k → source k j ≡ 2 ^ k - 1
 unfolding start
 source_first k j l = omega (arith, suc-source k j, ap (λ (x : ℕ). x * 2 ^ suc k) (div-eq_of_lt l))

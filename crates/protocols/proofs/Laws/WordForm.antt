@@ -1,4 +1,4 @@
--- The code's masks and shifts are the position-wise rounds, for every round of every width.
+-- The code's rounds on whole words are the rounds position by position, for every round of every width.
 use Rattle.std.proofs.Common.{◌≡◌, ℕ, zero, suc, ◌+◌, ◌-◌, ◌*◌, ◌/◌, ◌%◌, ◌^◌, ◌<◌, ◌⊎◌, sym, refl, ap, ◌∙◌, ap₂, inl, inr, le_refl, lt_of_le_of_lt, add-zero, mod-lt, mod-eq_of_lt, zero-lt-suc, mul_assoc, suc-mul, mul_comm, add-mul, add_comm, mul-lt-mul_of_pos_right, one-mul, pow-suc, zero-mul, mul-suc, le-mul_of_pos_right, mul_left_comm, one-add, arith, pow_pos, pow_mono, pow-add}
 use native.Mathlib.Nat.{add-div_left, add-mod_left, two-pow-succ, div-eq_of_lt}
 use native.Mathlib.Decide.{dec_lt}
@@ -23,7 +23,7 @@ below_or j d = either (dec_lt j d)
     either (yes h) = inl h
     either (no h) = inr (j - d, omega arith)
 
--- the shift of round k, at 32 bits
+-- the shift of round k at 32 bits
 pub stride : (k : ℕ) → k < 5 → 1 * 2 ^ k % 2 ^ 32 ≡ 2 ^ k
 stride k h = rw one-mul (mod-eq_of_lt (pow-lt {j = 32} (omega arith)))
 
@@ -35,24 +35,24 @@ bit_upper : (k i : ℕ) → i < 2 ^ k → bit_at (2 ^ k + i) k ≡ 1
 unfolding bit_at
 bit_upper k i h = rw (add-div_left i (pow_pos k), div-eq_of_lt h)
 
--- ---- a spread over so many runs of 2 ^ (k + 1) positions, as a product
+-- ---- the spread over r runs of 2 ^ (k + 1) positions, as a product
 
 unfoldable spread_in : ℕ → ℕ → ℕ → ℕ
 spread_in k r x = bit_and x (sources_in k r) * (2 ^ (2 ^ k) - 1) * 2
 
 module _ (k : ℕ) where
-  -- what the words on half a run, and on a whole run, are below
+  -- bounds of the words on half a run and on a whole run
   abbrev H : ℕ
   H = 2 ^ (2 ^ k)
 
   abbrev R : ℕ
   R = 2 ^ (2 ^ suc k)
 
-  -- the bit of the first run's source
+  -- the bit of the source in the first run
   abbrev first : ℕ → ℕ
   first x = bit_at x (2 ^ k - 1)
 
-  -- one run of a spread, where its source's bit is b
+  -- the spread over one run, where b is the bit of its source
   run : ℕ → ℕ
   run b = b * (H - 1) * H
 
@@ -163,7 +163,7 @@ spread-lt : (n k x : ℕ) → spread n k x < modulus n
 unfolding spread
 spread-lt n k x = mod-lt _ (pow_pos (width n))
 
--- ---- one position, by the bit that chooses
+-- ---- one position, by the bit of choose
 
 and_one : (x : ℕ) → x < 2 → bit_and x 1 ≡ x
 and_one x h = and_mask x 1 ∙ mod-eq_of_lt h
@@ -184,7 +184,7 @@ choose-fold (suc b) p p' t t' hp ht ht' = simp (and_zero_r, xor_zero_r) (and_one
 
 -- ---- whole words
 
--- a word combined with a shared 'and', told position by position
+-- a word combined with a shared 'and', position by position
 by_positions : (w a p p' t t' : ℕ) (f : ℕ → ℕ) → ((j : ℕ) → f j < 2) → a < 2 ^ w → t < 2 ^ w → t' < 2 ^ w
     → ((j : ℕ) → j < w → bit_xor (bit_at a j) (and_share (bit_at p j) (bit_at p' j) (bit_at t j) (bit_at t' j)) ≡ f j)
     → bit_xor a (and_share p p' t t') ≡ of_bits w f
@@ -192,7 +192,7 @@ by_positions w a p p' t t' f hf ha ht ht' e =
     ext w (bit_xor a (and_share p p' t t')) (of_bits w f) (xor_lt w a (and_share p p' t t') ha (and_share-lt w p p' t t' ht ht')) (of_bits-lt w f hf)
     (λ j l. rw (bit_at-xor a (and_share p p' t t') j, bit_at-and_share p p' t t' j, bit_of w f hf j l) (e j l))
 
--- what a mask keeps
+-- the bits that a mask keeps
 module _ (w p : ℕ) (f : ℕ → ℕ) (h : (j : ℕ) → f j < 2) where
   kept_lt : bit_and p (of_bits w f) < 2 ^ w
   kept_lt = lt_of_le_of_lt (and_le_r p (of_bits w f)) (of_bits-lt w f h)

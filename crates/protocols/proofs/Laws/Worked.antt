@@ -1,4 +1,4 @@
--- The worked cases: M1 to M9 by computation, M10 to M12 by what new shares combine to.
+-- The worked cases: 1 to 9 by computation, 10 to 12 by what new shares combine to; Specification: Worked computations
 use Rattle.std.proofs.Common.{◌≡◌, ℕ, ◌-◌, refl, ◌∙◌, ap₂, pow_pos}
 use Rattle.protocols.specs.Word.{width, modulus, add, sub, mul, bit_at, of_bits, shift_up}
 use Rattle.protocols.specs.Shares.{Operands, sum_of, xor_of}
@@ -16,7 +16,7 @@ use Rattle.protocols.specs.Worked.{Sharing, Worked}
 use Rattle.protocols.proofs.Laws.RingCombine.{ring_combines}
 use Rattle.protocols.proofs.Laws.BitsCombine.{bits_combine}
 
--- the product and the comparison of two words that are shared in any way
+-- the product and the comparison of two words in any shares
 product_is : (u v : ℕ) (x : Operands) (b : Tapes) → Sharing u v x → sum_of (modulus 5) ((multiply (modulus 5)).result x b) ≡ mul (modulus 5) u v
 product_is u v x b h = (ring_combines (modulus 5) (pow_pos (width 5))).multiply_combines x b ∙ ap₂ (mul (modulus 5)) h.0 h.1
 
@@ -27,28 +27,28 @@ below_is u v x b c h = (bits_combine 5).below_combines x b c ∙ ap₂ (λ (y z 
 pub worked : Worked
 unfolding add sub mul bit_at of_bits shift_up sum_of xor_of ◌then◌ store multiply opening bit deal exchange source round_s round_p round rounds bits compare first_masks fold_share fold folds
 worked = record {
-  M1 = refl;
-  M1_received = refl;
-  M2 = refl;
-  M2_received = refl;
-  M3 = refl;
-  M3_received = refl;
-  M4 = refl;
-  M4_received = refl;
-  M4_word = refl;
-  M5 = refl;
-  M5_received = refl;
-  M6 = refl;
-  M6_received = refl;
-  M7_value = refl;
-  M7_carries = refl;
-  M7_sum = refl;
-  M8_ones = refl;
-  M8 = refl;
-  M9_start = refl;
-  M9 = refl;
-  M10 = product_is 65536 65536;
-  M11_less = below_is 3 5;
-  M11_equal = below_is 5 5;
-  M12 = below_is 4294967295 0;
+  case_1 = refl;
+  case_1_received = refl;
+  case_2 = refl;
+  case_2_received = refl;
+  case_3 = refl;
+  case_3_received = refl;
+  case_4 = refl;
+  case_4_received = refl;
+  case_4_word = refl;
+  case_5 = refl;
+  case_5_received = refl;
+  case_6 = refl;
+  case_6_received = refl;
+  case_7_value = refl;
+  case_7_carries = refl;
+  case_7_sum = refl;
+  case_8_ones = refl;
+  case_8 = refl;
+  case_9_start = refl;
+  case_9 = refl;
+  case_10 = product_is 65536 65536;
+  case_11_less = below_is 3 5;
+  case_11_equal = below_is 5 5;
+  case_12 = below_is 4294967295 0;
 }

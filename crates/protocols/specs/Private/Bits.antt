@@ -1,4 +1,4 @@
--- The dealing and the exchange of Bits in one, and how far each list has come, as the code has it.
+-- The dealing and exchange of Bits as one step, and where each round's words go in the lists, as the code has them.
 use Rattle.std.specs.Prelude.{ℕ, ◌+◌, ◌*◌}
 use Rattle.protocols.specs.declared.shares.Shares.{Shares}
 use Rattle.protocols.specs.declared.place.Received.{Received}
@@ -8,10 +8,11 @@ use Rattle.protocols.specs.Place.{Tapes, Lists, ◌followed_by◌}
 use Rattle.protocols.specs.Counts.{received_counts}
 use Rattle.protocols.specs.Bits.{deal, first_state, sent_in_exchange}
 
--- the dealing and the exchange together, on the three words b of miner 1 and the masks q and t
+-- what the miners hold after the dealing and the exchange, from miner 1's words b and the masks q, t
 abbrev pub state_before_rounds : ℕ → Shares → Tapes → Shares → Shares → CarryState
 state_before_rounds n u b q t = first_state (modulus n) ((deal n).result u b) q t
 
+-- what they send in both
 abbrev pub sent_before_rounds : ℕ → Shares → Tapes → Shares → Shares → Lists
 sent_before_rounds n u b q t = (deal n).received u b followed_by sent_in_exchange ((deal n).result u b) q t
 

@@ -1,4 +1,4 @@
--- What the answers of a run tell: how many commands were done, and the refusal number.
+-- The answers of a run give the count of commands done and the number of the refusal.
 use Prim.Native.Nat.{ℕ, zero, suc, ◌<◌}
 use mathlib.Core.Path.{◌≡◌, refl, sym, ap, ◌∙◌}
 use mathlib.Core.List.{List, [], ◌∷◌, ◌++◌, map}
@@ -12,7 +12,7 @@ use Rattle.machine.proofs.Laws.Runs.{accepted_none, accepted_next, refused_none,
 
 -- ---- commands done, and the number
 
--- k commands done, then the number r, or 0
+-- k commands are done; then one is refused with r, or r is 0
 abbrev pub EndsWith : List Answer → ℕ → ℕ → Type 0
 EndsWith l k r = (accepted_count l ≡ k) × (refused_number l ≡ r)
 
@@ -37,7 +37,7 @@ ends-refused [] (suc k) r h e = absurd (omega (arith, ap length e))
 ends-refused (a ∷ l) zero r h e = ends_last a l r h (ap (λ (t : List ℕ). get_or t 0 0) e)
 ends-refused (a ∷ l) (suc k) r h e = ends_next a l k r (ap (λ (t : List ℕ). get_or t 0 0) e) (ends-refused l k r h (ap (drop 1) e))
 
--- numbers that end in the one after k zeros
+-- if a list and one more number are k zeros and r, the list is the zeros and the number is r
 pub zeros_then : (l : List ℕ) (a k r : ℕ) → length l ≡ k → l ++ (a ∷ []) ≡ replicate k 0 ++ (r ∷ []) → (l ≡ replicate k 0) × (a ≡ r)
 zeros_then l a k r h e = (
   sym (take_at l (a ∷ []) k h) ∙ ap (take k) e ∙ take_at (replicate k 0) (r ∷ []) k (length-replicate k 0),

@@ -1,4 +1,4 @@
--- Every session of these commands is a run by parties apart.
+-- Every session with these commands is played by parties apart.
 use Rattle.std.proofs.Common.{ℕ, List}
 use Rattle.machine.specs.declared.code.Command.{Command}
 use Rattle.machine.specs.declared.lent.Sizes.{Sizes}

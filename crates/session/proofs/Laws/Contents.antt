@@ -1,4 +1,4 @@
--- The contents of a sheet, pair by pair, and what contents that pass the tests say of the bodies.
+-- The contents of a sheet, pair by pair, and what holds of the bodies if the contents pass the tests.
 use Prim.Native.Nat.{ℕ, zero, suc, ◌+◌, ◌*◌, ◌/◌, ◌≤◌, ◌<◌}
 use mathlib.Core.Path.{◌≡◌, refl, ap, ◌∙◌}
 use mathlib.Core.List.{List, [], ◌∷◌, ◌++◌, append-nil}
@@ -26,7 +26,7 @@ use Rattle.session.proofs.Laws.Words.{length-words_of, words_of-cut}
 pub twelve : (f : List ℕ) → 48 ≤ length f → length (take 12 (words_of f)) ≡ 12
 twelve f long = length-take-le 12 (words_of f) (omega (arith, length-words_of f))
 
--- the first 48 bytes decoded over twelve words
+-- the first 48 bytes, decoded over twelve words, are the contents
 pub contents_read : (f b d : List ℕ) → b ≡ take 48 f → 48 ≤ length f → length d ≡ 12 → words_of b ++ drop (length b / 4) d ≡ take 12 (words_of f)
 contents_read f b d e h g =
     let k : length b ≡ 48 = ap length e ∙ length-take-le 48 f h in
@@ -58,7 +58,7 @@ module _ (l : List ℕ) (n i at end : ℕ) (h : i < n) (g : 2 * n ≤ length l) 
   unfolding is_chained
   chain_broken e = rw (next_pair l n i h g, ne_eqb (pair_word l n i 0) at e)
 
--- each of the first pairs has a count is_within_limits its limit
+-- the count of each of the first pairs is at most its limit
 abbrev Each : List ℕ → List ℕ → ℕ → Type 0
 Each ms l n = (k : ℕ) → k < length ms → pair_word l n k 1 ≤ get_or ms k 0
 
@@ -83,7 +83,7 @@ each_within (m ∷ ms) (s ∷ c ∷ r) (suc n) b h g e = by_count (dec_le c m) (
 
 -- ---- contents that pass the tests
 
--- which tests held, where the number is 0
+-- all four tests hold if the number is 0
 all_hold : (a b c d : Bool) → ◌≡◌ {A = ℕ} (cond a (cond b (cond c (cond d 0 4) 3) 2) 1) 0 → (a ≡ true) × (b ≡ true) × (c ≡ true) × (d ≡ true)
 all_hold a b c d h = (grind (arith, nat_tests), grind (arith, nat_tests), grind (arith, nat_tests), grind (arith, nat_tests))
 
@@ -114,7 +114,7 @@ chained-le at end (s ∷ n ∷ r) h =
 pub two-suc-add : (k : ℕ) → 2 * suc k + 1 ≡ suc (suc (2 * k + 1))
 two-suc-add k = omega arith
 
--- each body ends is_within_limits the file
+-- each body ends within the file
 body_ends : (k at end : ℕ) (l : List ℕ) → 2 * k + 1 < length l → is_chained at l end ≡ true → start_of l k + count_of l k ≤ end
 unfolding is_chained
 body_ends k at end [] h e = absurd (omega arith)
@@ -127,7 +127,7 @@ total : List ℕ → ℕ
 total [] = 0
 total (m ∷ ms) = m + total ms
 
--- a file is no longer than the limits allow
+-- a file whose bodies are within their limits is no longer than these allow
 room : (ms : List ℕ) (at end : ℕ) (l : List ℕ) → length l ≡ 2 * length ms → is_chained at l end ≡ true → is_within_limits ms l ≡ true → end ≤ at + total ms
 unfolding is_chained is_within_limits total
 room [] at end [] h e w = let q = eqb-true at end e in omega arith

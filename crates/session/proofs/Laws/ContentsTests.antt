@@ -1,4 +1,4 @@
--- The tests of the contents decide: they hold where no start, end or count breaks its rule.
+-- The tests of the contents hold exactly if no start, end or count breaks its rule.
 use Prim.Native.Nat.{ℕ, zero, suc, ◌+◌, ◌*◌, ◌≤◌, ◌<◌}
 use mathlib.Core.Path.{◌≡◌, refl, sym, ap, ap₂, subst, subst₂}
 use mathlib.Core.Logic.{◌⊎◌, inl, inr}
@@ -21,7 +21,7 @@ count_next s n r k = ap (λ (j : ℕ). get_or (s ∷ n ∷ r) j 0) (two-suc-add 
 take_next : (s n : ℕ) (r : List ℕ) (k : ℕ) → take (2 * suc k) (s ∷ n ∷ r) ≡ s ∷ n ∷ take (2 * k) r
 take_next s n r k = ap (λ (j : ℕ). take j (s ∷ n ∷ r)) (two-suc k)
 
--- where pair k is to start, the first at a place
+-- where pair k must start, the first at `at`
 abbrev pub due : ℕ → List ℕ → ℕ → ℕ
 due at l zero = at
 due at l (suc k) = start_of l k + count_of l k

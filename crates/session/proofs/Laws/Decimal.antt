@@ -1,4 +1,4 @@
--- The decimal form of a number: it spells the number, in digits, and starts with no zero.
+-- The decimal form of a number spells it, in digits, without leading zeros.
 use Prim.Native.Nat.{ℕ, zero, suc, ◌+◌, ◌-◌, ◌*◌, ◌/◌, ◌^◌, ◌≤◌, ◌<◌}
 use mathlib.Core.Path.{◌≡◌, refl}
 use mathlib.Core.List.{List, [], ◌∷◌, ◌++◌}
@@ -17,7 +17,7 @@ unfolding value_of
 value-append n [] t = refl
 value-append n (d ∷ l) t = value-append (10 * n + (d - 48)) l t
 
--- in so many digits as hold it
+-- with digits enough for it
 spells-within : (k n : ℕ) → n < 10 ^ suc k → value_of 0 (digits (suc k) n) ≡ n
 unfolding value_of
 spells-within zero n h = rw (appends.one 0 n (omega arith)) (omega arith)

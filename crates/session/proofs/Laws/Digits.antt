@@ -1,4 +1,4 @@
--- The decimal digits of a number: they are those that the library prints, and how many there are.
+-- The decimal digits of a number are those that the library prints; the most digits that there are.
 use Prim.Native.Nat.{ℕ, zero, suc, ◌/◌, ◌^◌, ◌≤◌, ◌<◌}
 use mathlib.Core.Path.{◌≡◌}
 use mathlib.Core.List.{[], ◌∷◌}

@@ -1,4 +1,4 @@
--- The lines of opens, command by command.
+-- The lines of opens, one command at a time.
 use Prim.Native.Nat.{ℕ, ◌+◌, ◌/◌, ◌≤◌, ◌<◌}
 use mathlib.Core.Path.{◌≡◌, refl}
 use mathlib.Core.List.{List, [], ◌∷◌, ◌++◌, map}
@@ -48,7 +48,7 @@ module _ (m : ℕ) (cs ss : List (List ℕ)) (i : ℕ) where
   unfolding open_lines_by_words
   lines_other h e = rw (add-one, drop-cons cs i [] h, ne_eqb (get_or p 0 0) 11 e)
 
--- the next three shares of s, if there are any, and what is left
+-- the sum of the next three shares of s, or 0 if there are none, and the shares left
 pub next_sum : (m : ℕ) (s : Iter (List ℕ)) (r : Option (Bor (List ℕ))) (t : Iter (List ℕ)) (word : ℕ) → iter_steps s r t
     → MatchOption r (word ≡ 0) (λ x. word ≡ sum_in m x.now)
     → (word ≡ get_or (map (sum_in m) (iter_rest s)) 0 0) × (map (sum_in m) (iter_rest t) ≡ drop 1 (map (sum_in m) (iter_rest s)))

@@ -1,4 +1,4 @@
--- Text that grows: texts put into a buffer, one after the other.
+-- Texts written into a buffer, one behind the other.
 use Prim.Native.Nat.{ℕ, ◌+◌, ◌^◌, ◌≤◌, ◌<◌}
 use mathlib.Core.Path.{◌≡◌, refl, sym, ap, ◌∙◌}
 use mathlib.Core.List.{List, [], ◌∷◌, ◌++◌, append-nil, append_assoc}
@@ -17,7 +17,7 @@ use Rattle.session.specs.Text.{spaced_numbers}
 use Rattle.session.specs.Private.Writing.{Adds, IsFront}
 use Rattle.session.proofs.Laws.Text.{spaced_numbers-one}
 
--- a text copied over a part of the buffer
+-- a text that is copied over a part of the buffer
 put_over : (l s t : List ℕ) (at k : ℕ) → t ≡ s → k ≡ length s → at + length s ≤ length l → put_mid at k l t ≡ sets l at s
 put_over l s t at k e n h = rw (e, n, drop-drop (length s) at l) (sym (sets-eq s l at h ∙ append_assoc (take at l) s (drop (at + length s) l)))
 
@@ -41,11 +41,11 @@ adds_then {a} s t h k =
 pub adds_nothing : {a : Text} → a.len ≤ length a.out.now → Adds a [] a
 adds_nothing h = record { same_reference = refl; bytes = refl; len = omega arith; same_room = refl; fits = h }
 
--- a number is a space and what the library prints
+-- a space, then what the library prints of a number
 pub adds_number : {a b c : Text} (n : ℕ) (t : List ℕ) → n < 2 ^ 64 → t ≡ printed n → Adds a (codes " ") b → Adds b t c → Adds a (spaced_numbers (n ∷ [])) c
 adds_number n t h e space rest = rw (spaced_numbers-one n h, ← e) (adds_then (codes " ") t space rest)
 
--- ---- text of which a part is done, and the rest left
+-- ---- a text of which a part is written
 
 pub record PartAdded (old : Text) (whole left : List ℕ) (most : ℕ) (new : Text) : Type 0 where
   pub done : List ℕ

@@ -1,4 +1,4 @@
--- Numbers 1 to 4: the tests of a session give the lowest number that applies, or 0 where none does.
+-- The tests of a session give the lowest of the refusals 1 to 4 that applies, or 0 if none does.
 use Prim.Native.Nat.{ℕ, ◌%◌, ◌/◌, ◌≤◌, ◌<◌}
 use mathlib.Core.Path.{◌≡◌, refl, sym, ◌∙◌}
 use mathlib.Core.Logic.{◌⊎◌, inl, inr}
@@ -16,11 +16,11 @@ use Rattle.session.specs.Refusals.{AppliesToSession, too_short, no_words, wrong_
 use Rattle.session.proofs.Laws.Words.{length-words_of}
 use Rattle.session.proofs.Laws.ContentsTests.{due-due_start, Broken, by_chain, Over, by_within}
 
--- what the chain of tests gives: 0 where no number from k on applies, the lowest otherwise
+-- 0 if no number from k on applies, else the lowest that does
 abbrev pub FirstRefusal : (ℕ → Type 0) → ℕ → ℕ → Type 0
 FirstRefusal = Exact (λ v. v ≡ 0) (λ r. r) (λ r. r)
 
--- ---- each test decides its line of the table
+-- ---- each test decides its line of the table of refusals
 
 module _ (file w : List ℕ) (s : State) where
   pub bounds : {q : ℕ} → AppliesToSession file w s q → (1 ≤ q) × (q ≤ 4)
@@ -44,7 +44,7 @@ module _ (file w : List ℕ) (s : State) where
       from (too_short h) = inl h
       from (no_words h) = inr h
 
-  -- where 1 does not apply, the file has the contents
+  -- if 1 does not apply, the file has twelve words of contents
   has_contents : ¬ AppliesToSession file w s 1 → 12 ≤ length (words_of file)
   has_contents none = let long : ¬ (length file < 48) = λ h. none (too_short h) in omega (arith, length-words_of file)
 

@@ -1,4 +1,4 @@
--- The text, from what a session leaves: its answer, the words, and the words that the controller received.
+-- The text of a session, from its answer, the lent words after it, and the words that the controller received.
 use Prim.Native.Nat.{ℕ, ◌+◌, ◌*◌, ◌/◌, ◌≤◌, ◌<◌}
 use mathlib.Core.Path.{◌≡◌, refl, sym, ap, ap₂, ◌∙◌, subst}
 use mathlib.Core.Bool.{true, false, cond, false≢true}
@@ -36,12 +36,12 @@ module _ (f w : List ℕ) (s : State) where
   abbrev sheet : Sheet
   sheet = sheet_of words
 
-  -- the text of an outcome is the one that the code makes of it, and what is read of it is there
+  -- the text of an outcome is the one that the code makes, and all that is read for it is there
   pub record IsReported (o : SessionOutcome) : Type 0 where
     pub text : text_of sheet s o.answer ≡ text_by_shares o.answer o.words o.state.received.controller
     pub readable : is_early o.answer.number ≡ false → IsReadable o.answer o.words o.state.received.controller
 
-  -- ---- a session that is turned down
+  -- ---- a session that is refused as a whole
 
   is_early-small : (r : ℕ) → 1 ≤ r → r ≤ 4 → is_early r ≡ true
   is_early-small r h e = rw (lt-ltb 0 r (omega (arith, h)), le-leb r 4 e)
@@ -50,7 +50,7 @@ module _ (f w : List ℕ) (s : State) where
   unfolding text_of text_by_shares
   refusal-reported r h e = record { text = rw (is_early-small r h e); readable = λ d. absurd (false≢true (sym d ∙ is_early-small r h e)) }
 
-  -- ---- a session that runs
+  -- ---- a session that is taken
 
   module _ (zero : early_refusal f w s ≡ 0) (taken : IsTaken f w s) where
     abbrev its_run : RunResult
@@ -84,7 +84,7 @@ module _ (f w : List ℕ) (s : State) where
           length-take (count_of words 0) (drop (start_of words 0) words),
         )
 
-    -- the first words of the lent ones after the contents are those of the commands
+    -- the lent words behind the contents begin with the commands
     commands_stand : take (3 * done) (drop 12 (words_after f w)) ≡ take (3 * done) (body words 0)
     commands_stand =
         let k = 3 * done in
@@ -126,14 +126,14 @@ module _ (f w : List ℕ) (s : State) where
       by_exact (refuses r a below) e =
           let b = bounds f w s a in subst IsReported (sym (session-applies f w s a e)) (refusal-reported r b.0 b.1)
 
--- ---- as the code has it
+-- ---- in the form of the code
 
 module _ (a : SessionAnswer) (w shares : List ℕ) where
   pub early_text : is_early a.number ≡ true → text_by_shares a w shares ≡ refusal_line a.number
   unfolding text_by_shares
   early_text e = rw e
 
-  -- the lines of opens among the first words of the commands
+  -- the lines of the opens among the first n words of commands
   abbrev pub opens_in : ℕ → List ℕ
   opens_in n = open_lines_by_words (commands_of (take n (drop 12 w))) (sums_in_threes (modulus 5) (take a.place.received.controller shares))
 
@@ -142,7 +142,7 @@ module _ (a : SessionAnswer) (w shares : List ℕ) where
   late_text n en e = rw (en, e)
 
 module _ (f w : List ℕ) (s : State) where
-  -- a file that is too long
+  -- a file that is too long for the program
   pub pool-long : {a : SessionAnswer} (shares : List ℕ) {t : List ℕ} → 30768 < length f → a ≡ session_answer 0 empty_place 3
       → t ≡ text_by_shares a w shares → pool_outcome t w s ≡ pool f w s
   unfolding pool text_by_shares

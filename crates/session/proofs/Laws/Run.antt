@@ -1,4 +1,4 @@
--- The run of a session: what the machine's run ended with is what the session answers.
+-- A session answers what the machine's run of its commands ended with.
 use Prim.Native.Nat.{ℕ}
 use mathlib.Core.Path.{◌≡◌, refl, sym, ap, ◌∙◌}
 use mathlib.Core.List.{List}
@@ -12,7 +12,7 @@ use Rattle.machine.proofs.Laws.RunTurns.{last_place, last_number}
 use Rattle.session.specs.Contents.{body, sheet_of}
 use Rattle.session.specs.Session.{State, state_of, lent_to_commands, session_answer, SessionOutcome, session_outcome, outcome_of_run, run_of}
 
--- an end, as a session answers it, with the words w
+-- a run's end as the outcome of a session, with the lent words w
 abbrev pub outcome_of_end : List ℕ → RunOutcome → SessionOutcome
 outcome_of_end w e = session_outcome (session_answer e.run.done e.run.last.place e.run.last.number) w (state_of e.lent)
 
@@ -23,7 +23,7 @@ end_of_run w cs l =
     let a = machine.answer 0 empty_place 0 in
     sym (λ i. session_outcome (session_answer (accepted_count r.answers) (last_place 5 cs l a i) (last_number 5 cs l a refl i)) w (state_of r.lent))
 
--- the run of the bodies, each a part of the words, from the empty place
+-- the run of the bodies of the words w from the empty place record is the session's
 pub run_of-bodies : (w : List ℕ) (s : State) {commands inputs provider one two three : List ℕ} → commands ≡ body w 0 → inputs ≡ body w 1
     → provider ≡ body w 2 → one ≡ body w 3 → two ≡ body w 4 → three ≡ body w 5 → {p : Place} → p ≡ empty_place → {e : RunOutcome}
     → e ≡ run_outcome_of p (run_to_refusal 5 (commands_of commands) p (lent_lists s.tables s.kinds inputs (tapes provider one two three) s.received))

@@ -1,4 +1,4 @@
--- The lines of a run's opens, from the words opened.
+-- The lines of a run's opens, made of the opened words.
 use Prim.Native.Nat.{ℕ}
 use mathlib.Core.Path.{◌≡◌, refl, ap, ◌∙◌}
 use mathlib.Core.Bool.{Bool, true, false, cond, ◌&&◌, and-false}
@@ -23,7 +23,7 @@ no_run : [] ≡ open_lines_by_words (take (accepted_count []) []) (opened_words 
 unfolding open_lines_by_words
 no_run = rw accepted_none
 
--- a run's first command: it is done, or refused
+-- a run's first command is accepted or refused
 module _ (c : Command) (cs : List Command) (o : CommandOutcome) (r : RunResult) where
   abbrev a : Answer
   a = o.answer

@@ -1,4 +1,4 @@
--- A session, case by case.
+-- A session that is refused as a whole, and one that is taken.
 use Prim.Native.Nat.{ℕ, ◌/◌, ◌≤◌}
 use mathlib.Core.Path.{◌≡◌, ◌∙◌, ap, sym}
 use mathlib.Core.Bool.{Bool, ◌&&◌}
@@ -19,7 +19,7 @@ use Rattle.session.specs.Session.{State, SessionOutcome, session_outcome, sessio
 use Rattle.session.proofs.Laws.Words.{take-words_after}
 use Rattle.session.proofs.Laws.Contents.{passes_tests, fits_lent}
 
--- where numbers 1 to 4 do not apply, the lent words hold the file's; as the code has it, with the test of the other lengths first
+-- if no refusal 1 to 4 applies, enough words are lent for the file's; `alike` is the test of the other lengths
 pub words_lent : (f w : List ℕ) (alike : Bool) → first_refusal f (alike && leb 7692 (length w)) ≡ 0 → length f / 4 ≤ length w
 words_lent f w alike h =
     let a = passes_tests f (alike && leb 7692 (length w)) h in
@@ -30,7 +30,7 @@ module _ (f w : List ℕ) (s : State) where
   unfolding session
   session-refused h = rw (ne_eqb (early_refusal f w s) 0 h)
 
-  -- as the code has it
+  -- a session refused by the code's refusal r
   pub session-of_refusal : (r : Refusal) → refusal_number r ≡ early_refusal f w s → (a : SessionAnswer) → a ≡ session_answer 0 empty_place (refusal_number r) → session_outcome a w s ≡ session f w s
   session-of_refusal r e a h =
       ap (λ (x : SessionAnswer). session_outcome x w s) (h ∙ ap (λ (n : ℕ). session_answer 0 empty_place n) e)
@@ -40,7 +40,7 @@ module _ (f w : List ℕ) (s : State) where
   unfolding session
   session-run h = rw (eq-eqb (early_refusal f w s) 0 h)
 
-  -- as the code has it: v is what the lent words are after decoding, of which the first u are run
+  -- a session run by the code: v are the lent words after decoding, and u are those of the file
   pub session-done : early_refusal f w s ≡ 0 → (u v : List ℕ) → v ≡ words_after f w → u ≡ take (length f / 4) v → (a : SessionAnswer) (t : State)
       → session_outcome a u t ≡ outcome_of_run (run_of (sheet_of u) s) u → session_outcome a v t ≡ session f w s
   session-done h u v e eu a t r =

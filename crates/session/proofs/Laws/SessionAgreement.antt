@@ -1,4 +1,4 @@
--- What the shares left combine to, and what is printed as opened, is the register machine's.
+-- After a session the shares combine to the words of the register machine, and its opened words are printed.
 use Prim.Native.Nat.{ℕ, ◌^◌}
 use mathlib.Core.Path.{◌≡◌, sym, ap, ap₂, ◌∙◌, subst}
 use mathlib.Core.List.{List, [], ◌∷◌}
@@ -28,7 +28,7 @@ use Rattle.session.proofs.Laws.Session.{session-run}
 use Rattle.session.proofs.Laws.RunLines.{run_lines}
 use Rattle.session.proofs.Laws.UpToRefusal.{no_refusal, up_to-refusal}
 
--- ---- four bytes give a word
+-- ---- four bytes give a word, so inputs and tapes are words
 
 words_of-below : (f : List ℕ) → AllBelow 256 f → AllBelow (2 ^ 32) (words_of f)
 unfolding words_of
@@ -55,13 +55,13 @@ module _ (file w : List ℕ) (s : State) (bytes : AllBelow 256 file) where
       let b = sheet file w s in
       words_from_empty 5 s.tables s.kinds s.received (tape_lengths b.tapes) b.inputs b.tapes (body_below 1) tapes-below
 
--- ---- what a session outcome_after
+-- ---- the outcome of a session that is taken
 
 module _ (file w : List ℕ) (s : State) (bytes : AllBelow 256 file) (t : IsTaken file w s) where
   abbrev commands : List Command
   commands = (sheet file w s).commands
 
-  -- the registers its_outcome the commands done, of a session with this outcome
+  -- the register machine, run on the commands done, holds what the shares of this outcome combine to
   abbrev SameRegisters : SessionOutcome → Type 0
   SameRegisters o = starting_registers 5 o.answer.place (lent_to_commands (sheet file w s) o.state)
       ≡ registers_after 5 (take o.answer.done commands) (sizes (lent_at_start file w s)) (sheet file w s).inputs (registers [] empty_place)

@@ -1,4 +1,4 @@
--- Refusals of sessions: numbers 1 to 4 by the table of refusals, and otherwise the run.
+-- Sessions are refused as the table of refusals says, and are otherwise the run of their commands.
 use Prim.Native.Nat.{ℕ, ◌≤◌, ◌<◌}
 use mathlib.Core.Path.{◌≡◌, refl, sym, ap, ◌∙◌, subst}
 use mathlib.Core.Logic.{◌↔◌}
@@ -13,7 +13,7 @@ use Rattle.session.proofs.Laws.Refusals.{bounds, FirstRefusal, exact}
 use Rattle.session.proofs.Laws.UpToRefusal.{no_refusal, up_to-refusal}
 
 module _ (file w : List ℕ) (s : State) where
-  -- no command is refused with one of these numbers
+  -- no command is refused with one of the numbers 1 to 4
   not_early : UpToRefusal file w s → ¬ ((0 < its_number file w s) × (its_number file w s ≤ 4))
   not_early (runs_to_end zeros e) h = omega (arith, ap (λ (o : SessionOutcome). o.answer.number) e, h.0)
   not_early (stops_at k r five within zeros lowest e) h = omega (arith, ap (λ (o : SessionOutcome). o.answer.number) e, h.1)

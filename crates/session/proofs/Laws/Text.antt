@@ -1,4 +1,4 @@
--- Numbers and lines: how long they are, and how numbers follow each other.
+-- The lengths of numbers and lines, and numbers one after another.
 use Prim.Native.Nat.{ℕ, ◌+◌, ◌*◌, ◌^◌, ◌≤◌, ◌<◌}
 use mathlib.Core.Path.{◌≡◌, refl, sym, ap, ◌∙◌}
 use mathlib.Core.List.{List, [], ◌∷◌, ◌++◌, append-nil, append_assoc}
@@ -17,7 +17,7 @@ unfolding spaced_numbers
 spaced_numbers-length [] = omega arith
 spaced_numbers-length (n ∷ ns) = omega (arith, length-append (digits 20 n) (spaced_numbers ns), digits-length 20 n, spaced_numbers-length ns)
 
--- of the first numbers
+-- the length of the first i numbers
 pub numbers_fit : (i : ℕ) (ns : List ℕ) → length (spaced_numbers (take i ns)) ≤ 21 * i
 numbers_fit i ns = omega (arith, spaced_numbers-length (take i ns), length-take i ns)
 
@@ -30,14 +30,14 @@ pub open_line-length : (handle word : ℕ) → length (open_line handle word) �
 unfolding open_line
 open_line-length handle word = line-length (codes "open") (handle ∷ word ∷ [])
 
--- ---- number after number
+-- ---- numbers one after another
 
 pub spaced_numbers-append : (ns ms : List ℕ) → spaced_numbers (ns ++ ms) ≡ spaced_numbers ns ++ spaced_numbers ms
 unfolding spaced_numbers
 spaced_numbers-append [] ms = refl
 spaced_numbers-append (n ∷ ns) ms = ap (λ (l : List ℕ). codes " " ++ (digits 20 n ++ l)) (spaced_numbers-append ns ms) ∙ ap (λ (l : List ℕ). codes " " ++ l) (sym (append_assoc (digits 20 n) (spaced_numbers ns) (spaced_numbers ms)))
 
--- a number is a space and what the library prints
+-- one number is a space and what the library prints
 pub spaced_numbers-one : (n : ℕ) → n < 2 ^ 64 → spaced_numbers (n ∷ []) ≡ codes " " ++ printed n
 unfolding spaced_numbers
 spaced_numbers-one n h = rw (append-nil, decimal_is n h)

@@ -1,4 +1,4 @@
--- A session that is taken is the run of its commands up to the first refusal.
+-- A session that is taken runs its commands up to the first refusal.
 use Prim.Native.Nat.{ℕ, suc, ◌<◌}
 use mathlib.Core.Path.{◌≡◌, sym, ap, ◌∙◌}
 use mathlib.Core.List.{List, [], ◌∷◌, ◌++◌, map-append}

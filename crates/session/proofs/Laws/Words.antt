@@ -1,4 +1,4 @@
--- The words of a file, one by one and by four.
+-- The words of a file, decoded one by one and four at a time.
 use Prim.Native.Nat.{ℕ, zero, suc, ◌+◌, ◌*◌, ◌/◌, ◌≤◌, ◌<◌}
 use mathlib.Core.Path.{◌≡◌, refl, sym, ap, ◌∙◌}
 use mathlib.Core.List.{List, [], ◌∷◌, ◌++◌}
@@ -23,11 +23,11 @@ length-words_of (a ∷ b ∷ []) = refl
 length-words_of (a ∷ b ∷ c ∷ []) = refl
 length-words_of (a ∷ b ∷ c ∷ d ∷ r) = let h : length (words_of r) ≡ length r / 4 = length-words_of r in omega arith
 
--- four times a successor, as an index
+-- four times a successor
 four_suc : (i : ℕ) → 4 * suc i ≡ suc (suc (suc (suc (4 * i))))
 four_suc i = omega arith
 
--- the words of a file's first bytes are its first words, and those of the rest are the others
+-- the first 4n bytes of a file give its first n words, and the other bytes the other words
 pub words_of-cut : (f : List ℕ) (n : ℕ) → (words_of (take (4 * n) f) ≡ take n (words_of f)) × (words_of (drop (4 * n) f) ≡ drop n (words_of f))
 unfolding words_of
 words_of-cut f zero = (refl, refl)
@@ -38,7 +38,7 @@ words_of-cut (a ∷ b ∷ c ∷ []) (suc n) = rw (four_suc n) (refl, refl)
 words_of-cut (a ∷ b ∷ c ∷ d ∷ r) (suc n) =
     let e = words_of-cut r n in rw (four_suc n) (ap (λ w. word_of_bytes a b c d ∷ w) e.0, e.1)
 
--- ---- decoding, a word a turn
+-- ---- decoding, one word a turn
 
 chunk_word : (f : List ℕ) (k i : ℕ) → i < k → k ≤ length f / 4 → from_le_bytes w32 (get_or (first_chunks 4 k f) i []) ≡ get_or (words_of f) i 0
 unfolding words_of
@@ -50,7 +50,7 @@ chunk_word (a ∷ b ∷ c ∷ []) (suc k) i h e = absurd (omega arith)
 chunk_word (a ∷ b ∷ c ∷ d ∷ r) (suc k) zero h e = omega arith
 chunk_word (a ∷ b ∷ c ∷ d ∷ r) (suc k) (suc i) h e = chunk_word r k i (omega arith) (omega arith)
 
--- the words d with the first i words of bytes put at a place
+-- the words d with the first i words of the bytes f written from `at` on
 abbrev pub with_first_words : List ℕ → List ℕ → ℕ → ℕ → List ℕ
 with_first_words d f at i = sets d at (take i (words_of f))
 
@@ -63,9 +63,9 @@ decode_turn d f w cs at i r ec h er ew =
     ∙ sets-append d (take i (words_of f)) (get_or (words_of f) i 0 ∷ []) at
     ∙ ap (sets d at) (sym (take_more (words_of f) i 0 (omega (arith, h, length-words_of f))))
 
--- ---- by four
+-- ---- four words at a time
 
--- block i of so many
+-- block i of the first k
 block_is : (f : List ℕ) (k i : ℕ) → i < k → get_or (first_chunks 16 k f) i [] ≡ take 16 (drop (16 * i) f)
 block_is f zero i h = absurd (omega arith)
 block_is f (suc k) zero h = refl
@@ -88,7 +88,7 @@ block_turn d f w b cs i ec h eb ew =
     ∙ sets_behind d (take (4 * i) q) (take 4 (drop (4 * i) q)) (4 * i) (sym n)
     ∙ ap (sets d 0) (sym (take-add (4 * i) 4 q) ∙ ap (λ (k : ℕ). take k q) m)
 
--- and what is left after the blocks comes last
+-- the words left after the blocks come last
 pub rest_turn : (d f w r : List ℕ) → length f / 4 ≤ length d → r ≡ drop (length f / 16 * 16) f → w ≡ with_first_words d f 0 (4 * (length f / 16))
     → sets w (4 * (length f / 16)) (words_of r) ≡ words_of f ++ drop (length f / 4) d
 rest_turn d f w r h er ew =
@@ -103,6 +103,6 @@ rest_turn d f w r h er ew =
     ∙ begins_with d q (omega (arith, h, length-words_of f))
     ∙ ap (λ (i : ℕ). q ++ drop i d) (length-words_of f)
 
--- the part of the lent words that holds the file's
+-- the front of the lent words is the file's words
 pub take-words_after : (f w : List ℕ) → take (length f / 4) (words_of f ++ drop (length f / 4) w) ≡ words_of f
 take-words_after f w = take_at (words_of f) (drop (length f / 4) w) (length f / 4) (length-words_of f)

@@ -1,6 +1,5 @@
--- The worked session, one that stops, the empty one and a file of no word, by computation.
--- Every definition on which a session stands is opened here, those of the layers below too. The lent words stay unknown:
--- a session tests only that they are enough.
+-- The worked session, one that stops, an empty one and a file of no word, by computation.
+-- Every definition behind a session is unfolded here. The lent words stay unknown: a session tests only their count.
 use Prim.Native.Nat.{ℕ, ◌≤◌}
 use mathlib.Core.Path.{◌≡◌, refl, ap, ◌∙◌}
 use mathlib.Core.Bool.{Bool, true, false}
@@ -27,7 +26,7 @@ use Rattle.session.specs.Text.{digits, spaced_numbers, open_line, end_line, stop
 use Rattle.session.specs.Worked.{bytes, worked_file, stopped_file, empty_file, state_before, WorkedSession}
 use Rattle.session.proofs.Laws.Session.{session-run}
 
--- what the run of a file's commands answers and leaves, with the words w lent, and its text
+-- the outcome of the run of a file's commands with the words w lent, and its text
 abbrev run_outcome : List ℕ → List ℕ → SessionOutcome
 run_outcome file w = outcome_of_run (run_of (sheet_of (words_of file)) state_before) (words_after file w)
 
@@ -39,13 +38,13 @@ module _ (file w : List ℕ) (sound : first_refusal file true ≡ 0) (h : 7692 �
   runs : session file w state_before ≡ run_outcome file w
   runs = session-run file w state_before (ap (λ (enough : Bool). first_refusal file enough) (le-leb 7692 (length w) h) ∙ sound)
 
-  -- where the file is not too long for the program
+  -- if the file is not too long for the program
   prints : ltb 30768 (length file) ≡ false → (t : List ℕ) → run_text file ≡ t
       → pool file w state_before ≡ pool_outcome t (words_after file w) (run_outcome file w).state
   unfolding pool
   prints short t e = rw (short, runs, e)
 
--- what is printed of the files
+-- the texts of the files
 text_of_worked : run_text (bytes worked_file) ≡ codes "open 3 35\nend 4 7 7 7 3\n"
 unfolding add sub mul sum_of block store multiply opening row_verdict verdict protocol accepted_outcome command run_to_refusal commands_of
     commands_done refused_number words_of digits spaced_numbers open_line end_line open_lines text_of

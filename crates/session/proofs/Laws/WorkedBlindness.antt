@@ -1,4 +1,4 @@
--- Blindness of one session, from that of all: the pairings of its tapes, and what equal records say.
+-- Blindness of the worked session's commands, from that of all: the maps of tapes, and what equal records have in common.
 use Prim.Native.Nat.{ℕ, zero, suc, ◌<◌, ◌^◌}
 use mathlib.Core.Path.{◌≡◌, refl, sym, ap, ap₂, ◌∙◌, subst}
 use mathlib.Core.Bool.{cond}
@@ -64,7 +64,7 @@ contents t a One = tape_words a.one
 contents t a Two = tape_words a.two
 contents t a Three = tape_words a.three
 
--- ---- what a pairing hides
+-- ---- a pairing of tapes is a map that hides
 
 hides : {Ok Fits : Tapes → Type 0} {Like Same : Tapes → Tapes → Type 0} → ((t : Tapes) → Ok t → Fits t) → ((t : Tapes) → Fits t → Ok t)
     → ((t u : Tapes) → Like t u → Same t u) → Pairing Ok Like → Hides Fits Same
@@ -95,9 +95,9 @@ for_controller r r' e = record {
   answers = same_answers (controller_records r r' e).same_replies;
 }
 
--- ---- 7 and 5 lead to the same opened words as 1 and 35
+-- ---- the inputs 7 and 5 give the same opened words as 1 and 35
 
--- what a register machine is words_led_to to from a command on, whose verdict is v
+-- the opened words of a register machine from the command c on, whose verdict is v
 abbrev words_led_to : Verdict → Command → List Command → Sizes → List ℕ → Registers → List ℕ
 words_led_to v c cs z i m = opened_register 5 v c m ++ cond (eqb (verdict_number v) 0) (opened_registers_to_refusal 5 cs z i (next_registers 5 v c i m)) []
 
@@ -112,12 +112,11 @@ words_led_to-none z i m = refl
 words_led_to-refused : (r : Refusal) (c : Command) (cs : List Command) (z : Sizes) (i : List ℕ) (m : Registers) → words_led_to (Refused r) c cs z i m ≡ []
 words_led_to-refused r c cs z i m = rw (ne_eqb (code_number r) 0 (λ e. omega (arith, refusal_number-positive r, e)))
 
--- the command that a code names is the one that is accepted
+-- the accepted command is the one that its code names
 accepts : (c : Command) (p : Place) (z : Sizes) (kinds : List ℕ) (x y : Code) → code_named c.code ≡ Ok x → verdict 5 c p z kinds ≡ Accepted y → y ≡ x
 accepts c p z kinds x y e v = let f = sym (all_passed 5 y c p z kinds v).known ∙ e in cc
 
--- two machines with the same counts and kinds are words_led_to to the same from the command x on, if they are where it is
--- accepted
+-- two machines with the same counts and kinds open the same words from the command x on, if they do so where it is accepted
 turn : (c : Command) (cs : List Command) (z : Sizes) (i j : List ℕ) (m k : Registers) (x : Code) → code_named c.code ≡ Ok x → judge 5 c z m ≡ judge 5 c z k
     → opened_register 5 (Accepted x) c m ≡ opened_register 5 (Accepted x) c k
     → opened_registers_to_refusal 5 cs z i (next_registers 5 (Accepted x) c i m) ≡ opened_registers_to_refusal 5 cs z j (next_registers 5 (Accepted x) c j k)

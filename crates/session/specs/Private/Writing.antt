@@ -3,11 +3,11 @@ use Rattle.std.specs.Prelude.{ℕ, ◌≡◌, ◌+◌, ◌≤◌, List, length, 
 use Rattle.std.proofs.lemmas.List.Edits.{sets}
 use Rattle.session.specs.declared.text.Text.{Text}
 
--- n more bytes have room in the buffer
+-- the buffer has room for n more bytes
 abbrev pub HasRoom : Text → ℕ → Type 0
 HasRoom t n = t.len + n ≤ length t.out.now
 
--- the text with s behind it, in the same buffer
+-- s is added behind the text, in the same buffer
 pub record Adds (old : Text) (s : List ℕ) (new : Text) : Type 0 where
   pub same_reference : new.out.ghost_name ≡ old.out.ghost_name
   pub bytes : new.out.now ≡ sets old.out.now old.len s
@@ -15,7 +15,7 @@ pub record Adds (old : Text) (s : List ℕ) (new : Text) : Type 0 where
   pub same_room : length new.out.now ≡ length old.out.now
   pub fits : new.len ≤ length new.out.now
 
--- the text s is at the front of the buffer, n bytes long, and the rest of the buffer is as it was
+-- the n bytes of the text s are at the front of the buffer, and the rest of the buffer is as it was
 pub record IsFront (old s new : List ℕ) (n : ℕ) : Type 0 where
   pub text : take n new ≡ s
   pub rest : drop n new ≡ drop n old

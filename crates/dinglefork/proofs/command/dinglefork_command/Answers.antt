@@ -1,5 +1,4 @@
--- `dinglefork_command` meets its contract. (The check finds this goal by itself. It is answered so that other tapes are refused as an equation
--- that is false.)
+-- `dinglefork_command` meets its contract. The check would prove this by itself; by this answer other tapes are refused for a false equation.
 use Rattle.dinglefork.proofs.command.dinglefork_command.Goals as goal
 
 pub returns-clause-done : goal.returns-clause-done

@@ -1,4 +1,4 @@
--- Each command, and each list of commands, is a protocol that is played apart.
+-- Each command, and each list of commands, is a protocol that parties apart can play.
 use Rattle.std.proofs.Common.{ℕ, List, [], ◌∷◌, get_or, refl}
 use Rattle.protocols.specs.declared.place.Party.{Party}
 use Rattle.protocols.specs.declared.place.Party.TheVariants.{Provider, One, Two, Three}
@@ -20,14 +20,14 @@ use Rattle.machine.proofs.Laws.Blind.RunProtocol.{step_protocol, run_protocol}
 
 -- ---- a command
 
--- what a party takes from what it has, by the command and the place, which are public
+-- the arguments that a party takes from its own part; command and place are public
 abbrev taken : Command → Place → Party → List ℕ → OwnArguments
 taken c p Provider h = record { input = get_or h p.inputs 0; u = 0; v = 0 }
 taken c p One h = record { input = 0; u = entry h c.a; v = entry h c.b }
 taken c p Two h = record { input = 0; u = entry h c.a; v = entry h c.b }
 taken c p Three h = record { input = 0; u = entry h c.a; v = entry h c.b }
 
--- and what it has then, with its share w of the new value
+-- its own part after the command, where w is its share of the new value
 abbrev left_with : Row → Place → Party → List ℕ → ℕ → List ℕ
 left_with x p Provider h w = h
 left_with x p One h w = with_entry x.values h p.handles w

@@ -1,4 +1,4 @@
--- Where two runs by parties apart leave the same received lists, so does each run that is mixed of the two.
+-- If two runs with programs leave the same received lists, so does each mixture of the two.
 use Rattle.std.proofs.Common.{◌≡◌, ℕ, ◌+◌, Bool, true, false, cond, List, length, take, drop, ◌++◌, refl, sym, ap, ◌∙◌}
 use Rattle.protocols.specs.declared.place.Party.{Party}
 use Rattle.protocols.specs.declared.place.Party.TheVariants.{Provider, One, Two, Three}
@@ -15,7 +15,7 @@ use Rattle.machine.specs.Run.{RunResult}
 use Rattle.machine.specs.Apart.{own_part, Programs, process_of, ComesTo, HasPrograms, mixed_lent, MixedRuns}
 use Rattle.machine.proofs.Laws.Apart.Words.{same_words}
 
--- ---- what is lent
+-- ---- the lent lists
 
 own_part-mixed : (first : Party → Bool) (l l' : Lent) (i : Party)
     → own_part i (mixed_lent first l l') ≡ of_both first (λ j. own_part j l) (λ j. own_part j l') i
@@ -25,7 +25,7 @@ length-either : (b : Bool) (x y : List ℕ) (n : ℕ) → length x ≡ n → len
 length-either true x y n e f = e
 length-either false x y n e f = f
 
--- lists of the same lengths, mixed
+-- lists that are mixed of two of the same lengths have these lengths
 sizes-mixed : (first : Party → Bool) (l l' : Lent) (z : Sizes) → sizes l ≡ z → sizes l' ≡ z
     → sizes (mixed_lent first l l') ≡ z
 sizes-mixed first l l' z e e' =
@@ -50,7 +50,7 @@ sizes-mixed first l l' z e e' =
       received = (e k).received;
     }
 
--- ---- the four, and the run
+-- ---- the four programs, and the run
 
 module _ (P : Programs) (p : Place) (first : Party → Bool) (l l' : Lent) where
   abbrev m : Lent

@@ -1,4 +1,4 @@
--- What each received list has more after a list of commands: the words of each command, one after the other.
+-- The words that each received list gains in a run: those of each command, one after the other.
 use Rattle.std.proofs.Common.{◌≡◌, ℕ, ◌+◌, ◌≤◌, List, [], ◌∷◌, ◌++◌, length, take, drop}
 use Rattle.std.proofs.Common.{refl, sym, ap, subst, subst₂, ◌∙◌, add-zero, arith}
 use Rattle.std.proofs.Math.Decide.{dec_le}
@@ -27,7 +27,7 @@ use Rattle.machine.proofs.Laws.Lawful.{lawful}
 
 -- ---- words after words
 
--- of t, w and d, one after the other: t with w, and what stands behind j words more
+-- of the lists t, w and d, one after the other: the front t and w, and the rest after j more words
 front_with : (t w d : List ℕ) (n : ℕ) → n ≡ length t + length w → take n (t ++ (w ++ d)) ≡ t ++ w
 front_with t w d n e =
     rw e (take-append-add t (w ++ d) (length w) ∙ ap (λ (l : List ℕ). t ++ l) (take-append_seam w d))
@@ -35,7 +35,7 @@ front_with t w d n e =
 behind_both : (t w d : List ℕ) (n j : ℕ) → n ≡ length t + (length w + j) → drop n (t ++ (w ++ d)) ≡ drop j d
 behind_both t w d n j e = rw e (drop-append-add t (w ++ d) (length w + j) ∙ drop-append-add w d j)
 
--- of w, appended to a at the place k, which may lie beyond it: the front with w, and what stands behind j words more
+-- of a with w written at position k, which may be beyond its end: the front and w, and the rest after j more words
 module _ (a : List ℕ) (k : ℕ) (w : List ℕ) where
   abbrev both : List ℕ
   both = take k a ++ (w ++ drop (k + length w) a)
@@ -62,7 +62,7 @@ module _ (a : List ℕ) (k : ℕ) (w : List ℕ) where
           rw (none, all, append-nil)
           (drop_of_length-le (a ++ w) (omega (arith, length-append a w)) ∙ sym (drop_of_length-le a (omega arith)))
 
--- words, and more words behind them
+-- words, then more words behind them
 appended_more : (a : List ℕ) (k : ℕ) (w b w' c : List ℕ)
     → Appended a k w b → Appended b (k + length w) w' c → Appended a k (w ++ w') c
 appended_more a k w b w' c e f =
@@ -93,7 +93,7 @@ module _ (n : ℕ) (c : Command) (p : Place) (l : Lent) (b : Tapes) where
   kinds-left (Accepted x) = refl
   kinds-left (Refused q) = refl
 
-  -- the place moves on by what each list receives
+  -- the place moves on by the words that each list receives
   due-after : (v : Verdict) (r : Receiver)
       → count_for r (place_after n v p).received ≡ count_for r p.received + length (list r ((step_protocol n v c p).received l b))
   due-after (Accepted x) r =

@@ -1,4 +1,4 @@
--- What a miner has after a run by parties apart is settled by what it had, drew and received.
+-- A miner's table after a run with programs depends on its table before, its tape and its received list only.
 use Rattle.std.proofs.Common.{◌≡◌, ℕ, List, drop, refl, sym, ap, ◌∙◌}
 use Rattle.protocols.specs.declared.place.Place.{Place}
 use Rattle.protocols.specs.Shares.{Miner, one, two, three}
@@ -12,7 +12,7 @@ use Rattle.machine.specs.Run.{RunResult}
 use Rattle.machine.specs.Apart.{own_part, Programs, ComesTo, HasPrograms, SameRunView}
 use Rattle.machine.proofs.Laws.Apart.Words.{same_words}
 
--- ---- a miner's list and table, as the party's
+-- ---- a miner's received words and table, as those of the party
 
 for-owner : (i : Miner) (l : Lists) → for_party (owner i) l ≡ list (miner i) l
 for-owner one l = refl
@@ -24,11 +24,11 @@ own_part-owner one l = refl
 own_part-owner two l = refl
 own_part-owner three l = refl
 
--- ---- what it has after a run
+-- ---- its table after a run
 
 module _ (P : Programs) (p : Place) (i : Miner) (l l' : Lent) (r r' : RunResult)
     (C : ComesTo P p l r) (C' : ComesTo P p l' r') where
-  -- what it has after them is what it comes to by itself
+  -- its table after the run is what its program ends with by itself
   same_table : table i l.tables ≡ table i l'.tables → tape (owner i) l.tapes ≡ tape (owner i) l'.tapes
       → list (miner i) C.words ≡ list (miner i) C'.words → table i r.lent.tables ≡ table i r'.lent.tables
   same_table held drawn heard =

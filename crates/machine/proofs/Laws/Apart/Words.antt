@@ -1,4 +1,4 @@
--- The words that are sent in a run by parties apart are told by what the received lists hold after it.
+-- The received lists after a run with programs determine the words that are sent in it.
 use Rattle.std.proofs.Common.{◌≡◌, ℕ, List, ◌++◌, length, take, drop, sym, ap, subst, ◌∙◌}
 use Rattle.std.proofs.Math.Seq.{take-append_seam, drop-append_seam}
 use Rattle.std.proofs.lemmas.List.{length-take}
@@ -14,7 +14,7 @@ use Rattle.machine.specs.Lent.{Lent, sizes}
 use Rattle.machine.specs.Run.{RunResult}
 use Rattle.machine.specs.Apart.{Programs, process_of, ComesTo}
 
--- equally long words, behind equally long fronts of the same list
+-- in equal lists, equally long parts behind equally long fronts are equal
 same_between : (a w d a' w' d' : List ℕ)
     → length a ≡ length a' → length w ≡ length w' → a ++ (w ++ d) ≡ a' ++ (w' ++ d') → w ≡ w'
 same_between a w d a' w' d' long as_long same =
@@ -24,13 +24,13 @@ same_between a w d a' w' d' long as_long same =
     between a w d = ap (take (length w)) (drop-append_seam a (w ++ d)) ∙ take-append_seam w d
 
 module _ (P : Programs) (p : Place) (q : Receiver) where
-  -- the timetable says how many they are
+  -- their number, by the timetable
   number_of_words : (l : Lent) (r : RunResult) (C : ComesTo P p l r) → length (list q C.words) ≡ total q P.timetable
   number_of_words l r C =
       subst (λ (c : Connection (List ℕ)). length (list q c.received) ≡ total q c.sent) C.plays
       (length-received (List ℕ) P.rounds (process_of P p l) q)
 
-  -- and the place and the list's length, how many stand in front of them
+  -- the number of words in front of them, by the place and the list's length
   abbrev in_front : Sizes → ℕ
   in_front z = min (count_for q p.received) (count_for q z.received)
 

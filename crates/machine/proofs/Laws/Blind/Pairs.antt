@@ -1,4 +1,4 @@
--- Pairings of tape contents: from a blind protocol, with a tape held fixed, and of what is told by the paired contents.
+-- Pairings of tape contents: from a blind protocol, with one tape fixed, and for what depends on the contents.
 use Prim.Native.Nat.{ℕ}
 use mathlib.Core.Path.{◌≡◌, sym, ap, ◌∙◌}
 use mathlib.Core.List.{List}
@@ -10,11 +10,11 @@ use Rattle.protocols.specs.Contents.{Contents}
 use Rattle.protocols.specs.Blind.{Observer, Holds, Blind}
 use Rattle.machine.specs.Pairing.{Pairing}
 
--- the tapes that the observer holds are the same
+-- the tapes that the observer has are the same
 abbrev pub SameOwn : Observer → Tapes → Tapes → Type 0
 SameOwn o t t' = (p : Party) → Holds o p → tape p t' ≡ tape p t
 
--- 'the first of a pair' is masked on the one operands, and unmasked on the other
+-- a blind protocol pairs the contents: masked with the operands s, then unmasked with s'
 pub pairs : {m : ℕ} {o : Observer} {S T : Type 0} {f : Protocol S T} {Good : S → Type 0} {Same : S → S → Type 0} {After : T → T → Type 0}
     → Blind m o f Good Same After → (s s' : S) → Good s → Good s' → Same s s'
     → Pairing (Contents m f.draws) (λ t t'. After (f.result s t) (f.result s' t') × SameOwn o t t')
@@ -46,7 +46,7 @@ weaken f P = record {
   alike = λ t h. f t (P.to t) h (P.to_ok t h) (P.alike t h);
 }
 
--- a tape that the observer holds stays as it is: the others pair off alike
+-- a pairing that keeps the observer's tapes is one of the contents in which such a tape is fixed
 pub fixed : {m : ℕ} {d : Drawn} {Like : Tapes → Tapes → Type 0} (o : Observer) (p : Party) → Holds o p → (own : List ℕ)
     → Pairing (Contents m d) (λ t t'. Like t t' × SameOwn o t t') → Pairing (λ t. Contents m d t × (tape p t ≡ own)) Like
 fixed o p q own P = record {

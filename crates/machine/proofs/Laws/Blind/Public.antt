@@ -1,4 +1,4 @@
--- What a run does that is public: told by the commands, the place record, the lent lengths and the kinds alone.
+-- What is public in a run: it depends on the commands, the place record, the lengths and the kinds only.
 use Prim.Native.Nat.{ℕ, suc}
 use mathlib.Core.Path.{◌≡◌, refl, subst₂}
 use mathlib.Core.Bool.{cond}
@@ -45,9 +45,9 @@ unfoldable pub tried : ℕ → List Command → Place → Sizes → List ℕ →
 tried n [] p z k = 0
 tried n (c ∷ cs) p z k = let v = verdict n c p z k in suc (cond (eqb (verdict_number v) 0) (tried n cs (place_after n v p) z (kinds_after n v p k)) 0)
 
--- ---- a command answers and leaves just that
+-- ---- a command answers and leaves exactly this
 
--- the lengths z and the kinds k are lent
+-- the public part of a command's outcome o, for the verdict v
 pub record Public (n : ℕ) (p : Place) (z : Sizes) (k : List ℕ) (v : Verdict) (o : CommandOutcome) : Type 0 where
   pub same_number : o.answer.number ≡ verdict_number v
   pub same_place : o.answer.place ≡ place_after n v p

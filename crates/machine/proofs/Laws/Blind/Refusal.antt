@@ -1,4 +1,4 @@
--- Blindness of runs that stop at the first refused command: such a run is the run of the commands up to it, which are public.
+-- Blindness of runs up to the first refusal: each is a run of the commands up to it, whose number is public.
 use Prim.Native.Nat.{ℕ}
 use mathlib.Core.Path.{◌≡◌, refl, sym, ap, ◌∙◌}
 use mathlib.Core.Bool.{Bool, true, false, cond}
@@ -28,7 +28,7 @@ use Rattle.machine.proofs.Laws.Blind.Run.{Held}
 use Rattle.machine.proofs.Laws.Blind.Pairs.{weaken}
 use Rattle.machine.proofs.Laws.Blind.Runs.{contents_long, base, held, start-empty, same_size, run_blindness}
 
--- ---- the run, and what the inputs lead to
+-- ---- the run, and its opened words
 
 pub run-to : (n : ℕ) (cs : List Command) (p : Place) (l : Lent) → run_to_refusal n cs p l ≡ run n (take (tried n cs p (sizes l) l.kinds) cs) p l
 unfolding run_to_refusal run tried

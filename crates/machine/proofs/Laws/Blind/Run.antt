@@ -1,4 +1,4 @@
--- A run, as one protocol, is blind: one induction over the commands, for every observer.
+-- A run, as one protocol, is blind: by induction over the commands, for every observer.
 use Prim.Native.Nat.{ℕ}
 use mathlib.Core.Path.{◌≡◌, refl, sym, ap, ap₂, subst₂, ◌∙◌}
 use mathlib.Core.Bool.{Bool, true, false, cond}
@@ -31,20 +31,20 @@ use Rattle.machine.proofs.Laws.Blind.Public.{place_after, kinds_after}
 use Rattle.machine.proofs.Laws.Blind.RunProtocol.{step_protocol, run_protocol}
 use Rattle.machine.proofs.Laws.Lawful.{ArgumentsAreWords, SameArguments, lawful}
 
--- ---- what is lent, before a command
+-- ---- the lent lists before a command
 
--- it is words, and of the lengths and kinds that are public
+-- they hold words, and have the public lengths and kinds
 pub record Held (n : ℕ) (p : Place) (z : Sizes) (k : List ℕ) (l : Lent) : Type 0 where
   pub words : LentAreWords (modulus n) p l
   pub sized : sizes l ≡ z
   pub kinds : l.kinds ≡ k
 
--- it looks the same to the observer
+-- they look the same to the observer
 pub record Seen (o : Observer) (l l' : Lent) : Type 0 where
   pub tables : (i : Miner) → Sees o (miner i) → table i l.tables ≡ table i l'.tables
   pub lists : (r : Receiver) → Sees o r → list r l.received ≡ list r l'.received
 
--- and, for the controller, leads to the same opened words by the commands to come
+-- and, for the controller, the commands to come give the same opened words
 pub record Alike (n : ℕ) (o : Observer) (cs : List Command) (p : Place) (z : Sizes) (l l' : Lent) : Type 0 where
   pub seen : Seen o l l'
   pub leading : Sees o controller → opened_registers n cs z l.inputs (starting_registers n p l) ≡ opened_registers n cs z l'.inputs (starting_registers n p l')
@@ -82,7 +82,7 @@ module _ (n : ℕ) (o : Observer) (c : Command) (cs : List Command) (p : Place) 
     good : (l : Lent) → Held n p z k l → ArgumentsAreWords n x (takes n c p l x)
     good l h = given_are_words n c p l x h.words (passed l h)
 
-    -- what the commands from this one on lead to
+    -- the opened words of the commands from this one on
     leads-on : (l : Lent) → Held n p z k l → (b : Tapes) → Contents (modulus n) (protocol n x c.b).draws b
         → opened_registers n (c ∷ cs) z l.inputs (starting_registers n p l)
         ≡ opened_register n (Accepted x) c (starting_registers n p l) ++ opened_registers n cs z l.inputs (starting_registers n (with_row p (row n x)) (leaves n c p l x b))

@@ -1,4 +1,4 @@
--- A run as one protocol on all that is lent but the tapes: it draws what its commands draw, and then all that is left.
+-- A run as one protocol on the lent lists other than tapes: it draws what its commands draw, and then all that is left.
 use Prim.Native.Nat.{ℕ, ◌+◌, ◌-◌, ◌≤◌}
 use mathlib.Core.Path.{◌≡◌, refl, sym, ap, ap₂, ◌∙◌}
 use mathlib.Core.List.{List, [], ◌∷◌, map}
@@ -40,9 +40,9 @@ unfoldable pub run_protocol : ℕ → List Command → Place → Sizes → List 
 run_protocol n [] p z k = draw_rest (left z.tapes p.drawn)
 run_protocol n (c ∷ cs) p z k = let v = verdict n c p z k in step_protocol n v c p then run_protocol n cs (place_after n v p) z (kinds_after n v p k)
 
--- ---- it draws the tapes run_protocol
+-- ---- it draws the whole tapes
 
--- of d words k are drawn and then j
+-- of d words, k are drawn and then j
 left_after : (d k j : ℕ) → k + j ≤ d → j + (d - (k + j)) ≡ d - k
 left_after d k j h = omega arith
 
@@ -69,14 +69,14 @@ run-draws n (c ∷ cs) p z k =
     let j = kinds_after n v p k in
     then_draws (step_protocol n v c p) (run_protocol n cs q z j) ∙ ap (plus (step_protocol n v c p).draws) (run-draws n cs q z j) ∙ step_left n c p z k v refl
 
--- ---- a run does what it does
+-- ---- the protocol does what the run does
 
 abbrev pub with_tapes : Tapes → Lent → Lent
 with_tapes t l = lent_lists l.tables l.kinds l.inputs t l.received
 
 -- one command, on the tapes t
 module _ (n : ℕ) (c : Command) (p : Place) (l : Lent) (t : Tapes) where
-  -- the words that it draws, and what it leaves
+  -- the words that it draws, and the lent lists after it
   abbrev next : Verdict → Tapes
   next v = cut (step_protocol n v c p).draws (rest p.drawn t)
 

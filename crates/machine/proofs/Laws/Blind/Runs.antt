@@ -1,4 +1,4 @@
--- Blindness: runs on two input lists give an observer the same records.
+-- Blindness: runs on two input lists give an observer equal records; Specification: Blindness.
 use Prim.Native.Nat.{ℕ, zero, suc, ◌<◌}
 use mathlib.Core.Path.{◌≡◌, refl, sym, ap, ap₂, subst, ◌∙◌}
 use mathlib.Core.List.{List, [], map}
@@ -30,7 +30,7 @@ use Rattle.machine.proofs.Laws.Blind.RunProtocol.{run_protocol, run-draws, Follo
 use Rattle.machine.proofs.Laws.Blind.Run.{Held, Seen, Alike, run-blind}
 use Rattle.machine.proofs.Laws.Blind.Pairs.{SameOwn, pairs, weaken, fixed}
 
--- ---- tapes of zeros: what is lent beside the tapes is told apart from their contents
+-- ---- tapes of zeros: the lent lists without the contents of the tapes
 
 abbrev zeros : Drawn → Tapes
 zeros d = tapes (replicate d.provider 0) (replicate d.one 0) (replicate d.two 0) (replicate d.three 0)
@@ -69,7 +69,7 @@ controller-same r r' place words opened answers = λ j. record {
   replies = answers j;
 }
 
--- what is read of two lent records, from what they are
+-- if l is m and l' is m', f l is f l' if f m is f m'
 read : {A : Type 0} {l l' m m' : Lent} (f : Lent → A) → l ≡ m → l' ≡ m' → f m ≡ f m' → f l ≡ f l'
 read f e e' h = ap f e ∙ h ∙ ap f (sym e')
 
@@ -78,7 +78,7 @@ holds_own o one q = q
 holds_own o two q = q
 holds_own o three q = q
 
--- ---- what is lent at an empty place record
+-- ---- the lent lists at the empty place record
 
 pub start-empty : (n : ℕ) (l : Lent) → starting_registers n empty_place l ≡ registers [] empty_place
 unfolding starting_registers up_to
@@ -144,7 +144,7 @@ module _ (n : ℕ) (cs : List Command) (s : Tables) (k : List ℕ) (r : Lists) (
   follows i z e t h =
       run_follows n cs empty_place z k (lent_with i) t (ap (λ (y : Drawn). lengths s k i y r) (contents_long (modulus n) d t h) ∙ e) refl
 
-  -- each command's opened word is told by the replies and by what the inputs lead to
+  -- each command's opened word depends on the replies and the register machine's opened words only
   opened_by : (i : List ℕ) → AllBelow (modulus n) i → (t : Tapes) → Contents (modulus n) d t
       → map (λ (a : Answer). a.opened) (ran i t).answers ≡ spread cs (map reply (ran i t).answers) (leading i)
   opened_by i b t h =
@@ -161,7 +161,7 @@ module _ (n : ℕ) (cs : List Command) (s : Tables) (k : List ℕ) (r : Lists) (
     sizes-same : size y ≡ z
     sizes-same = same_size n s k r d x y long
 
-    -- for every observer; one that sees the controller's list must be given inputs that lead to the same opened words
+    -- for every observer; for one that sees the controller's list, x and y must give equal opened words
     module _ (o : Observer) (agree : Sees o controller → leading x ≡ leading y) where
       alike : Alike n o cs empty_place z (lent_with x) (lent_with y)
       alike = record {

@@ -1,4 +1,4 @@
--- The kinds seen so far are each 1 or 2 just where their word has no bit but the lowest.
+-- The word of the kinds seen so far is below 2 exactly if each kind is 1 or 2.
 use Rattle.std.proofs.Common.{◌≡◌, nat_lt, take}
 use Rattle.machine.specs.Verdict.{are_kinds}
 use Rattle.machine.proofs.judge.are_kinds.Given as goal

@@ -1,4 +1,4 @@
--- `machine::run::run_soundly` meets its contract: a turn of the loop is a turn of the run.
+-- `machine::run::run_soundly` meets its contract: one turn of the loop is one command of the run.
 use Rattle.std.proofs.Common.{◌≡◌, ℕ, length, refl, ◌∙◌, arith}
 use mathlib.Core.Path.{sym}
 use Rattle.std.specs.declared.result.Result.{Result}
@@ -11,12 +11,12 @@ use Rattle.machine.proofs.Laws.Rows.{refusal_number-positive}
 use Rattle.machine.proofs.Laws.RunTurns.{rest_of_run-at_start, turn-accepted, turn-refused, turn-sound, turns_end}
 use Rattle.machine.proofs.run.run_soundly.Goals as goal
 
--- four names that same_names-trans from turn to turn
+-- four names that stay the same from turn to turn
 same_names-trans : {a₁ a₂ a₃ a₄ b₁ b₂ b₃ b₄ c₁ c₂ c₃ c₄ : ℕ} → (a₁ ≡ b₁) × (a₂ ≡ b₂) × (a₃ ≡ b₃) × (a₄ ≡ b₄) → (b₁ ≡ c₁) × (b₂ ≡ c₂) × (b₃ ≡ c₃) × (b₄ ≡ c₄)
     → (a₁ ≡ c₁) × (a₂ ≡ c₂) × (a₃ ≡ c₃) × (a₄ ≡ c₄)
 same_names-trans e f = (e.0 ∙ f.0, e.1 ∙ f.1, e.2 ∙ f.2, e.3 ∙ f.3)
 
--- what holds of a step's answer holds of the case that it is
+-- the outcome of a step, by the case of its answer
 outcome_of_case : (p : Place) (l : Lent) (o : CommandOutcome) {answered one : Result Accepted Refusal} → answered ≡ one
     → command_outcome (answer_of p answered) l ≡ o → command_outcome (answer_of p one) l ≡ o
 outcome_of_case p l o is h = rw (sym is) h

@@ -1,4 +1,4 @@
--- What is rest_of_run to be run, from where the loop stands, comes to the whole run.
+-- The rest of the run, from the loop's state, completes the whole run.
 use Rattle.std.proofs.Common.{◌≡◌, true}
 use Rattle.protocols.specs.Lent.{SameLists}
 use Rattle.machine.specs.Lent.{Lent, lent_lists_of, SameTables, sizes}

@@ -1,4 +1,4 @@
--- A party by itself, on the list of its received words, does what it does among the others.
+-- A party by itself, on its received list, does what it does when it is connected with the others.
 use Rattle.std.proofs.Common.{◌≡◌, ℕ, zero, suc, List, ◌∷◌, ◌++◌, length, take, drop, refl, sym, ap, ◌∙◌, ◌+◌}
 use Rattle.std.proofs.lemmas.List.{append_assoc, drop-drop}
 use Rattle.std.proofs.Math.Seq.{take-append_seam, drop-append_seam}
@@ -33,7 +33,7 @@ take-front a l e f = rw (e, f) (take-append_seam a l)
 drop-front : {n : ℕ} {m : List ℕ} (a l : List ℕ) → n ≡ length a → m ≡ a ++ l → drop n m ≡ l
 drop-front a l e f = rw (e, f) (drop-append_seam a l)
 
--- and after words that are dropped already
+-- the same after words that are already dropped
 drop-two_fronts : (k n : ℕ) (m a l : List ℕ) → n ≡ length a → drop k m ≡ a ++ l → drop (k + n) m ≡ l
 drop-two_fronts k n m a l e f = sym (drop-drop n k m) ∙ drop-front a l e f
 
@@ -80,7 +80,7 @@ alone_is {B = B} (suc r) p i =
     record { ends = a.ends; sends = o i ∷ a.sends })
     ∙ ap (λ (a : Alone B). record { ends = a.ends; sends = o i ∷ a.sends }) (alone_is r p' i)
 
--- the lists of the connected processes agree with them
+-- the lists of the connected programs agree with what each sends
 words_sent-sends : (B : Type 0) (r : ℕ) (p : Party → Process r B) → (connect r p).received ≡ words_sent r (sends_of B r p)
 unfolding connect sends_of words_sent
 words_sent-sends B zero p = refl

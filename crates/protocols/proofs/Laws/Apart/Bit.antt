@@ -1,4 +1,4 @@
--- Each miner's program of Bit, and that they play it.
+-- Each miner's program of Bit; connected, they play it.
 use Rattle.std.proofs.Common.{ℕ, List, [], ◌∷◌, refl}
 use Rattle.std.specs.Prelude.{bit_xor}
 use Rattle.protocols.specs.declared.place.Party.TheVariants.{One, Two, Three}
@@ -12,7 +12,7 @@ use Rattle.protocols.specs.Own.{share}
 use Rattle.protocols.proofs.Laws.Apart.Compose.{alike}
 use Rattle.protocols.proofs.Laws.Apart.Programs.{round, nth, miners, for_two_three, none, miners_send, one_deals}
 
--- Miner 1 draws and deals. Miners 2 and 3 then exchange a bit each, and the two bits tell which value each takes.
+-- Miner 1 draws and deals. Miners 2 and 3 then send one another a bit, and from both bits each takes its value.
 abbrev bit_program : ℕ → ℕ → Miner → ℕ → List ℕ → Process 2 ℕ
 bit_program m j one u l =
     let b = low_bit (nth 0 l) in

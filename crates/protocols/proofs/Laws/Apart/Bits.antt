@@ -1,4 +1,4 @@
--- Each miner's program of Bits, round by round, and that they play it; and so Below.
+-- Each miner's program of Bits, round by round; connected, they play it, and so Below.
 use Rattle.std.proofs.Common.{ℕ, List, [], ◌∷◌, refl}
 use Rattle.std.specs.Prelude.{bit_xor, bit_and, ◌-◌}
 use Rattle.protocols.specs.declared.place.Party.{Party}
@@ -23,7 +23,7 @@ use Rattle.protocols.proofs.Laws.Apart.Bit.{bit_apart}
 
 -- ---- the dealing
 
--- after it miners 2 and 3 have a masked share and R₂, R₃
+-- after the dealing miners 2 and 3 have a masked share and R₂, R₃
 record OwnDealing : Type 0 where
   v : ℕ
   R : ℕ
@@ -57,7 +57,7 @@ deal_apart n = record {
 
 -- ---- the exchange
 
--- before a round a miner has its shares and masks, and the previous miner's masks, which it has been sent
+-- before a round a miner has its shares, its masks and the previous miner's masks, which it has received
 record OwnCarryState : Type 0 where
   p : ℕ
   s : ℕ
@@ -78,7 +78,7 @@ own_state i h = record {
   base = share i h.base;
 }
 
--- a miner begins with p and s, its masks, and the previous miner's as they come in
+-- a miner begins with p, s, its masks and the received masks of the previous miner
 abbrev own_first_state : ℕ → ℕ → List ℕ → List ℕ → OwnCarryState
 own_first_state p s l masks =
     record { p = p; s = s; q = nth 0 l; t = nth 1 l; q' = nth 0 masks; t' = nth 1 masks; base = p }
@@ -138,7 +138,7 @@ rounds_apart : (n k : ℕ) → PlayedApart (rounds n k) share own_state
 unfolding rounds
 rounds_apart n = apart-with_rounds (apart_then (deal_apart n) (exchange_apart n)) (round_apart n)
 
--- ---- and the end
+-- ---- the result
 
 pub bits_apart : (n : ℕ) → PlayedApart (bits n) share share
 unfolding bits

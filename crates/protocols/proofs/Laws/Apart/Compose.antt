@@ -1,4 +1,4 @@
--- A protocol that is made of parts that are played apart is played apart.
+-- A protocol made of parts that are played apart is played apart.
 use Rattle.std.proofs.Common.{◌≡◌, ℕ, zero, suc, [], ◌∷◌, ◌++◌, take, drop, refl, sym, ap, ◌∙◌}
 use Rattle.std.proofs.lemmas.List.{append_assoc, append-nil}
 use Rattle.protocols.specs.declared.place.Party.{Party}
@@ -13,12 +13,12 @@ abbrev more : ℕ → ℕ → ℕ
 more zero k = k
 more (suc r) k = suc (more r k)
 
--- one process, and then another from what the first one has in the end
+-- one program, and then another from what the first one ends with
 abbrev bind : (A B : Type 0) (r k : ℕ) → Process r A → (A → Process k B) → Process (more r k) B
 bind A B zero k p q = q p
 bind A B (suc r) k p q = record { sends = p.sends; next = λ m. bind A B r k (p.next m) q }
 
--- functions of a party that agree at each
+-- functions that agree at each party are equal
 pub by_party : {B : Type 0} {f g : Party → B}
     → f Provider ≡ g Provider → f One ≡ g One → f Two ≡ g Two → f Three ≡ g Three → f ≡ g
 by_party {f = f} {g = g} a b c d = λ i p. same p i
@@ -29,7 +29,7 @@ by_party {f = f} {g = g} a b c d = λ i p. same p i
     same Two = c
     same Three = d
 
--- the same ends, party by party, the same lists and the same timetable
+-- equal ends, lists and timetables make equal connections
 pub alike : {B : Type 0} {c d : Connection B} → c.ends Provider ≡ d.ends Provider → c.ends One ≡ d.ends One
     → c.ends Two ≡ d.ends Two → c.ends Three ≡ d.ends Three → c.received ≡ d.received → c.sent ≡ d.sent → c ≡ d
 alike {c = c} {d = d} p q r s e t = λ k. connection (by_party {f = c.ends} {g = d.ends} p q r s k) (e k) (t k)
@@ -42,7 +42,7 @@ followed_by_silence a = simp append-nil
 
 -- ---- one part after the other
 
--- two connected parts
+-- two connected parts in sequence
 abbrev sequence : {A B : Type 0} → Connection A → ((Party → A) → Connection B) → Connection B
 sequence c d = connection (d c.ends).ends (c.received followed_by (d c.ends).received) (c.sent ++ (d c.ends).sent)
 
@@ -59,7 +59,7 @@ connect-bind (suc r) k p q =
     ap (λ x. connection x.ends (o followed_by x.received) (t ∷ x.sent)) (connect-bind r k p' q)
     ∙ ap (λ l. connection d.ends l (t ∷ (c.sent ++ d.sent))) (sym (followed_by_assoc o c.received d.received))
 
--- a party's words of the first part of a block, and of the rest
+-- a party's words in the first part of a block, and in the rest
 tape-cut : (n : Drawn) (b : Tapes) (i : Party) → tape i (cut n b) ≡ take (count i n) (tape i b)
 tape-cut n b Provider = refl
 tape-cut n b One = refl
@@ -95,7 +95,7 @@ apart_then {B = B} {C = C} {f = f} {g = g} {before = before} {mid = mid} F G = r
       (second ∙ G.plays t (rest f.draws b));
 }
 
--- f, and then rounds of g
+-- f, and then the first k rounds of g
 pub apart-with_rounds : {S T A B : Type 0} {f : Protocol S T} {g : ℕ → Protocol T T}
     {before : Party → S → A} {after : Party → T → B}
     → PlayedApart f before after → ((k : ℕ) → PlayedApart (g k) after after)
@@ -109,9 +109,9 @@ pub then_received : {S T Z : Type 0} (f : Protocol S T) (g : Protocol T Z) (s : 
 unfolding ◌then◌
 then_received f g s b = refl
 
--- ---- a part alone
+-- ---- a single part
 
--- a step that sends nothing, and that each party does on what it has
+-- a step that sends nothing, done by each party on what it has
 pub apart-locally : {S T A B : Type 0} {g : S → T} {before : Party → S → A} {after : Party → T → B} (h : Party → A → B)
     → ((i : Party) (s : S) → h i (before i s) ≡ after i (g s)) → PlayedApart (locally g) before after
 unfolding connect
@@ -122,7 +122,7 @@ apart-locally h e = record {
   plays = λ s b k. connection (λ i. e i s k) silence [];
 }
 
--- words that are drawn and put to no use
+-- words that are drawn and not used
 pub apart-unused : {S A : Type 0} (before : Party → S → A) (d : Drawn)
     → PlayedApart (record { draws = d; result = λ s b. s; received = λ s b. silence }) before before
 unfolding connect
@@ -130,8 +130,8 @@ apart-unused before d = record { rounds = 0; timetable = []; program = λ i a l.
 
 -- ---- a protocol within a larger step
 
--- A step that plays f on what each party picks from what it has, and after which each keeps something made of that and
--- of what f leaves to it.
+-- A larger step in which each party plays f on a part of what it has, and ends with something made of what it had and
+-- of what f leaves it.
 pub apart-within : {S T V Z A B C D : Type 0} {f : Protocol T V} {g : Protocol S Z}
     {before : Party → S → A} {mid : Party → T → B} {made : Party → V → C} {after : Party → Z → D}
     (part : S → T) (pick : Party → A → B) (keep : Party → A → C → D)
@@ -154,7 +154,7 @@ apart-within {C = C} {f = f} {g = g} {before = before} part pick keep picked kep
       ∙ (λ k. connection (λ i. kept i s b k) (words k) (F.timetable ++ []));
 }
 
--- a protocol on a part of what is there, which each party finds in what it has
+-- f on a part of what is held, which each party finds in what it has
 pub apart-from_part : {S T Z A B C : Type 0} {part : S → T} {f : Protocol T Z}
     {before : Party → S → A} {mid : Party → T → B} {after : Party → Z → C} (pick : A → B)
     → ((i : Party) (s : S) → pick (before i s) ≡ mid i (part s))

@@ -1,4 +1,4 @@
--- Each miner's program of Equal, round by round, and that they play it.
+-- Each miner's program of Equal, round by round; connected, they play it.
 use Rattle.std.proofs.Common.{ℕ, List, [], ◌∷◌, refl}
 use Rattle.std.specs.Prelude.{bit_xor, ◌-◌}
 use Rattle.protocols.specs.declared.place.Party.{Party}
@@ -35,7 +35,7 @@ compare_apart n = record {
 
 -- ---- the folds
 
--- before a fold a miner has its share and its mask, and the previous miner's mask, which it has been sent
+-- before a round a miner has its share, its mask and the previous miner's mask, which it has received
 record OwnFoldState : Type 0 where
   p : ℕ
   q : ℕ
@@ -82,7 +82,7 @@ folds_apart : (n k : ℕ) → PlayedApart (folds n k) pair own_fold_state
 unfolding folds
 folds_apart n = apart-with_rounds (apart_then (compare_apart n) first_masks_apart) (fold_apart n)
 
--- ---- and Bit on position 0
+-- ---- then Bit on position 0
 
 pub equal_apart : (n : ℕ) → PlayedApart (equal n) pair share
 unfolding equal

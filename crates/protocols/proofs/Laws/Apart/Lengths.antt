@@ -1,4 +1,4 @@
--- How many words each list receives where four processes are connected: the timetable says it.
+-- How many words each list receives from four connected programs: as many as the timetable says.
 use Rattle.std.proofs.Common.{◌≡◌, ℕ, zero, suc, ◌+◌, List, [], ◌∷◌, ◌++◌, length, refl, sym, ap, ap₂, ◌∙◌}
 use Rattle.std.proofs.lemmas.List.{append_assoc, length-append}
 use Rattle.protocols.specs.declared.place.Party.{Party}

@@ -1,4 +1,4 @@
--- Where two runs by parties apart deliver the same words, so does each run that is mixed of the two.
+-- If two runs by parties apart deliver the same words, so does each run mixed from the two.
 use Rattle.std.proofs.Common.{◌≡◌, ℕ, zero, suc, Bool, true, false, cond, List, [], ◌∷◌, ◌++◌, length, take, drop}
 use Rattle.std.proofs.Common.{refl, sym, ap, ◌∙◌}
 use Rattle.std.proofs.Math.Seq.{take-append_seam, drop-append_seam}
@@ -16,7 +16,7 @@ use Rattle.protocols.proofs.Laws.Apart.Lengths.{list-round, sender, length-sent}
 
 -- ---- the words of a round, in each list
 
--- equally long fronts of the same list
+-- equally long fronts of equal lists are equal, and so is what follows them
 fronts_alike : {a a' l l' : List ℕ} → length a ≡ length a' → a ++ l ≡ a' ++ l' → (a ≡ a') × (l ≡ l')
 fronts_alike {a} {a'} {l} {l'} long same = (
   sym (take-append_seam a l) ∙ (λ k. take (long k) (same k)) ∙ take-append_seam a' l',
@@ -26,7 +26,7 @@ fronts_alike {a} {a'} {l} {l'} long same = (
 pub by_list : {a b : Lists} → ((q : Receiver) → list q a ≡ list q b) → a ≡ b
 by_list e = λ k. lists (e (miner one) k) (e (miner two) k) (e (miner three) k) (e controller k)
 
--- two rounds of the same lengths, in front of words: if all lists are the same, so are the words of each sender
+-- two rounds of equal lengths, followed by any words: if the lists are equal, so are the words of each sender
 module _ (o o' : Party → Lists) (l l' : Lists) (times : sent_lengths o ≡ sent_lengths o')
     (same : in_turn o followed_by l ≡ in_turn o' followed_by l') where
   as_long : (q : Receiver) (j : Party) → length (list q (o j)) ≡ length (list q (o' j))
@@ -47,7 +47,7 @@ module _ (o o' : Party → Lists) (l l' : Lists) (times : sent_lengths o ≡ sen
   later_alike : l ≡ l'
   later_alike = by_list (λ q. (words_alike q).1)
 
--- ---- four processes mixed of two fours
+-- ---- four programs mixed from two fours
 
 abbrev first_round : SentCounts → List SentCounts → SentCounts
 first_round t [] = t
@@ -57,7 +57,7 @@ abbrev later_rounds : List SentCounts → List SentCounts
 later_rounds [] = []
 later_rounds (t ∷ times) = times
 
--- each of the one four or of the other
+-- each party's from the one four or from the other
 abbrev pub mixed : {B : Type 0} → (Party → Bool) → (Party → B) → (Party → B) → Party → B
 mixed first c c' i = cond (first i) (c i) (c' i)
 
@@ -96,7 +96,7 @@ pub tape-mixed : (first : Party → Bool) (b b' : Tapes) (i : Party)
     → tape i (mixed_tapes first b b') ≡ mixed first (λ j. tape j b) (λ j. tape j b') i
 tape-mixed first b b' = elim [ Provider ↦ refl | One ↦ refl | Two ↦ refl | Three ↦ refl ]
 
--- from s and from s', and from u, of which each party has its part of the one or of the other
+-- from s, from s', and from u, of which each party has its part of s or of s'
 module _ {S A : Type 0} {f : Protocol S Shares} {part : Party → S → A} (F : PlayedApart f part share)
     (first : Party → Bool) (s s' u : S) (its : (i : Party) → part i u ≡ mixed first (λ j. part j s) (λ j. part j s') i)
     (b b' : Tapes) where
@@ -144,7 +144,7 @@ runs_mixed {mix = mix} its F = record {
   result = λ first s s' b b'. result_mixed F first s s' (mix first s s') (its first s s') b b';
 }
 
--- for what a party does not have
+-- a party that has nothing has 0 in both
 nothing : (first : Bool) → ◌≡◌ {A = ℕ} 0 (cond first 0 0)
 nothing true = refl
 nothing false = refl

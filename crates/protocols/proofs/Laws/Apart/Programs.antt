@@ -1,4 +1,4 @@
--- The words in which the parties' programs are written.
+-- The parts from which the parties' programs are built.
 use Rattle.std.specs.Prelude.{ℕ, zero, suc, List, [], slice_index}
 use Rattle.protocols.specs.declared.place.Party.{Party}
 use Rattle.protocols.specs.declared.place.Party.TheVariants.{Provider, One, Two, Three}
@@ -17,33 +17,33 @@ round B r o k = record { sends = o; next = k }
 abbrev pub nth : ℕ → List ℕ → ℕ
 nth k l = slice_index l k
 
--- the provider does nothing, and has x in the end
+-- the provider does nothing and ends with x
 abbrev idle : {B : Type 0} (r : ℕ) → B → Process r B
 idle zero x = x
 idle (suc r) x = record { sends = silence; next = λ m. idle r x }
 
--- three miners' programs, and an idle provider
+-- three miners' programs and an idle provider
 abbrev pub miners : {A B : Type 0} (r : ℕ) → B → (Miner → A → List ℕ → Process r B) → Party → A → List ℕ → Process r B
 miners r x p Provider a l = idle r x
 miners r x p One a l = p one a l
 miners r x p Two a l = p two a l
 miners r x p Three a l = p three a l
 
--- what miners do with their own shares, with no word sent
+-- what miners compute from their own shares, with no word sent
 abbrev pub by_miner : {A : Type 0} → (Miner → A → ℕ) → Party → A → ℕ
 by_miner f Provider a = 0
 by_miner f One a = f one a
 by_miner f Two a = f two a
 by_miner f Three a = f three a
 
--- the share of the previous miner, where it has sent it
+-- the share of the previous miner, once it has sent it
 abbrev pub previous : Party → Shares → ℕ
 previous Provider s = 0
 previous One s = s.three
 previous Two s = s.one
 previous Three s = s.two
 
--- words for the next miner, for miner 2 and miner 3, for the controller; what the previous miner sends
+-- words for the next miner, for miners 2 and 3, for the controller; and what the previous miner sends
 abbrev pub for_next : Miner → List ℕ → Lists
 for_next one l = lists [] l [] []
 for_next two l = lists [] [] l []
@@ -58,7 +58,7 @@ for_controller l = lists [] [] [] l
 abbrev pub from_previous : Miner → Messages → List ℕ
 from_previous i m = m (owner (prev i))
 
--- ---- timetables: a round in which the provider or the miners send so many words
+-- ---- timetables: a round in which the provider or the miners send these numbers of words
 
 abbrev pub none : Received
 none = received_counts 0 0 0 0

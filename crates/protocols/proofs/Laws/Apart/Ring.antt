@@ -1,4 +1,4 @@
--- Each party's program of store, of the steps on own shares, of reshare, multiply and open, and that they play these.
+-- Each party's program of store, the local commands, reshare, multiply and open; connected, they play these.
 use Rattle.std.proofs.Common.{ℕ, List, [], ◌∷◌, refl}
 use Rattle.protocols.specs.declared.place.Party.{Party}
 use Rattle.protocols.specs.declared.place.Party.TheVariants.{Provider, One, Two, Three}
@@ -18,7 +18,7 @@ use Rattle.protocols.proofs.Laws.Apart.Compose.{alike, apart-locally}
 use Rattle.protocols.proofs.Laws.Apart.Programs.{round, nth, miners, by_miner, for_next, for_controller, from_previous}
 use Rattle.protocols.proofs.Laws.Apart.Programs.{provider_sends, miners_send, each_next}
 
--- ---- each miner on its own share
+-- ---- local commands
 
 pub sum_apart : (m : ℕ) → PlayedApart (locally (sum m)) pair share
 sum_apart m =
@@ -40,7 +40,7 @@ constant_sum_apart m c =
     apart-locally (by_miner (λ i u. elim i [ one ↦ add m u c | two ↦ u | three ↦ u ]))
     (elim [ Provider ↦ λ u. refl | One ↦ λ u. refl | Two ↦ λ u. refl | Three ↦ λ u. refl ])
 
--- ---- store: the provider deals, and each miner keeps what it is sent
+-- ---- store: the provider deals, and each miner keeps what it receives
 
 abbrev store_program : ℕ → Party → ℕ → List ℕ → Process 1 ℕ
 store_program m Provider v l = round ℕ 0 (to_each (dealt_shares m v (tapes l [] [] []))) (λ mail. 0)
@@ -59,7 +59,7 @@ store_apart m = record {
 
 -- ---- reshare, multiply and open
 
--- a fresh share, of its own mask r and of the previous miner's
+-- a fresh share, from the miner's own mask r and the previous miner's
 abbrev fresh_share : ℕ → ℕ → ℕ → ℕ → ℕ
 fresh_share m s r r' = sub m (add m s r) r'
 

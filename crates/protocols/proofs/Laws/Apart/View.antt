@@ -1,4 +1,4 @@
--- What a miner has after a protocol that is played apart is settled by what it had, drew and received.
+-- After a protocol played apart, what a miner has is determined by what it had, drew and received.
 use Rattle.std.proofs.Common.{◌≡◌, ℕ, List, [], refl, sym, ap, ◌∙◌, arith}
 use Rattle.protocols.specs.declared.place.Party.{Party}
 use Rattle.protocols.specs.declared.place.Party.TheVariants.{One, Two, Three}
@@ -14,7 +14,7 @@ use Rattle.protocols.proofs.Laws.Apart.Alone.{alone_is}
 
 module _ {S T A B : Type 0} {f : Protocol S T} {before : Party → S → A} {after : Party → T → B}
     (F : PlayedApart f before after) where
-  -- party i by itself, of what it has before, its drawn words and its received words
+  -- party i by itself, from what it has before, its drawn words and its received words
   abbrev its_run : (i : Party) → A → List ℕ → List ℕ → Alone B
   its_run i a l w = alone B F.rounds i F.timetable (F.program i a l) w
 
@@ -30,7 +30,7 @@ module _ {S T A B : Type 0} {f : Protocol S T} {before : Party → S → A} {aft
       ∙ ap (λ (a : Alone B). a.ends) (alone_is F.rounds p i)
       ∙ ap (λ (c : Connection B). c.ends i) e
 
-  -- in two runs in which it has the same before, draws the same and receives the same words, it has the same after
+  -- if in two runs it has the same before, draws the same and receives the same words, it has the same after
   same_to_party : (i : Party) (s s' : S) (b b' : Tapes) → before i s ≡ before i s' → tape i b ≡ tape i b'
       → for_party i (f.received s b) ≡ for_party i (f.received s' b')
       → after i (f.result s b) ≡ after i (f.result s' b')
@@ -39,7 +39,7 @@ module _ {S T A B : Type 0} {f : Protocol S T} {before : Party → S → A} {aft
 
 -- ---- for each miner
 
--- where what is the Same to a miner is the same that its party has before
+-- where the Same to a miner means that its party has the same before
 same_to_miner : {S A : Type 0} {f : Protocol S Shares} {before : Party → S → A} {Same : Miner → S → S → Type 0}
     → ((i : Miner) (s s' : S) → Same i s s' → before (owner i) s ≡ before (owner i) s')
     → PlayedApart f before share → SameProtocolView f Same
@@ -63,7 +63,7 @@ view_of_operands f = same_to_miner (elim [
   | three ↦ λ x x' e k. record { u = e.0 k; v = e.1 k }
 ])
 
--- ---- so a protocol in which miner 2 has miner 1's share by magic is not played apart
+-- ---- so a protocol that gives miner 2 the share of miner 1, with no word sent, is not played apart
 
 pub no_magic : NoMagic
 no_magic F =

@@ -30,15 +30,16 @@ module _ (n j : ℕ) where
 
   -- ---- masks of miner 1's three words
 
-  -- for miner 2: the first word's lowest bit is what miner 3 sends
+  -- for miner 2: what miner 3 sends is in place of the first word's lowest bit
   abbrev mask-two : Shares → Tapes → List ℕ
   mask-two u t = bit_xor (bit_xor (b₁₂ t) (bit_at u.three j)) (word t one 0) ∷ word t one 1 ∷ word t one 2 ∷ []
 
-  -- for miner 3: the first word's lowest bit and the second word are what miner 1 sends, the third word's lowest bit is what miner 2 sends
+  -- for miner 3: what miner 1 sends is in place of the first word's lowest bit and of the second word, and what miner 2
+  -- sends in place of the third word's lowest bit
   abbrev mask-three : Shares → Tapes → List ℕ
   mask-three u t = bit_xor (b₁₂ t) (word t one 0) ∷ m₁₃ m (bits_at j u) t ∷ bit_xor (bit_at u.two j) (word t one 2) ∷ []
 
-  -- and back
+  -- the inverse masks
   abbrev third_word : Shares → Tapes → ℕ
   third_word u t = bit_xor (bit_at u.two j) (word t one 2)
 
@@ -100,7 +101,7 @@ module _ (n j : ℕ) where
         cc (e₀, e₁, e₂) ∙ listed_get_or 3 t.one (c One);
   }
 
-  -- ---- what the masked words tell
+  -- ---- what the masked words determine
 
   s₃₂-low : (u : Shares) (t : Tapes) → s₃₂ (bits_at j u) t ≡ low_bit (word (change One (mask-two u t) t) one 0)
   s₃₂-low u t =

@@ -24,13 +24,13 @@ use Rattle.protocols.proofs.Laws.Blind.Miner.{two-three-same, pick, pick_words}
 
 -- ---- what looks the same to miner i
 
--- after the dealing: its own masked share and R, and the masked share that it will receive
+-- after the dealing: its own masked share and R, and the masked share that it is to receive
 record SameDealing (i : Miner) (d d' : Dealing) : Type 0 where
   own : SameAt i (shares 0 d.v2 d.v3) (shares 0 d'.v2 d'.v3)
   bar : SameAt i (shares 0 d.bar2 d.bar3) (shares 0 d'.bar2 d'.bar3)
   due : SameAt i (shares 0 d.v3 d.v2) (shares 0 d'.v3 d'.v2)
 
--- between two rounds: its shares, and the masked shares of the next round, its own and those that it will receive
+-- between two rounds: its shares, and the next round's masked shares, its own and those that it is to receive
 record SameCarryState (i : Miner) (h h' : CarryState) : Type 0 where
   s : SameAt i h.s h'.s
   base : SameAt i h.base h'.base
@@ -74,15 +74,15 @@ module _ (n : ℕ) where
 
   -- ---- the dealing: masks of miner 1's three words
 
-  -- for miner 2: the first word is what miner 3 sends
+  -- for miner 2: what miner 3 sends is in place of the first word
   abbrev mask-two : Shares → Tapes → List ℕ
   mask-two u t = sub m (sub m (add m u.three u.one) (word t one 1)) (word t one 0) ∷ word t one 1 ∷ word t one 2 ∷ []
 
-  -- for miner 3: the words are what it receives
+  -- for miner 3: what it receives is in place of the words
   abbrev mask-three : Shares → Tapes → List ℕ
   mask-three u t = r₃ m u t ∷ v₂ m u t ∷ R₃ t ∷ []
 
-  -- and back
+  -- the inverse masks
   abbrev second_word : Shares → Tapes → ℕ
   second_word u t = sub m (word t one 1) u.two
 
@@ -159,7 +159,7 @@ module _ (n : ℕ) where
 
   -- ---- the exchange
 
-  -- the shares that it leaves
+  -- the shares after the exchange
   p₀_same : (i : Miner) (d d' : Dealing) → SameDealing i d d' → SameAt i (p₀ m d) (p₀ m d')
   p₀_same one d d' h = refl
   p₀_same two d d' h = cc (h.own, h.bar, h.due)
@@ -188,7 +188,7 @@ module _ (n : ℕ) where
 
   -- ---- the rounds
 
-  -- the shares that round k leaves
+  -- the shares after round k
   abbrev new_p : ℕ → CarryState → Shares
   new_p k h = let p = masked_shares h.p h.q in each (λ i. round_p (width n) k (at i p) (at (prev i) p))
 

@@ -1,4 +1,4 @@
--- Blindness in general: one protocol after another, protocols with no mask, and from single miners to every observer.
+-- Blindness in general: one protocol after another, protocols without a mask, and from one miner to every observer.
 use Rattle.std.proofs.Common.{◌≡◌, ℕ, [], ◌++◌, sym, refl, ap, ◌∙◌, subst, ap₂}
 use Rattle.protocols.specs.declared.place.Drawn.{Drawn}
 use Rattle.protocols.specs.declared.place.Party.{Party}
@@ -33,16 +33,16 @@ list_followed (miner two) l k = refl
 list_followed (miner three) l k = refl
 list_followed controller l k = refl
 
--- of a block x and y put together: what takes x and y back to the parts of b takes the whole back to b
+-- a map that takes x and y back to the parts of b takes their join back to b
 parts_back : (m : ℕ) (n : Drawn) (back : Tapes → Tapes → Tapes) (x y b : Tapes) → Contents m n x
     → back x y ≡ join (cut n b) (rest n b) → back (cut n (join x y)) (rest n (join x y)) ≡ b
 parts_back m n back x y b h e = ap₂ back (cut-join m n x y h) (rest-join m n x y h) ∙ e ∙ join-cut-rest n b
 
--- g after f, whose results are Good' for g
+-- f, then g, where the results of f are Good' for g
 module _ {m : ℕ} {o : Observer} {S T Z : Type 0} {f : Protocol S T} {g : Protocol T Z} {Good : S → Type 0} {Good' : T → Type 0}
     {Same : S → S → Type 0} {Mid : T → T → Type 0} {After : Z → Z → Type 0} (F : Blind m o f Good Same Mid)
     (made : (s : S) → Good s → (b : Tapes) → Contents m f.draws b → Good' (f.result s b)) (G : Blind m o g Good' Mid After) where
-  -- both masks, on a block of f and a block of g
+  -- the masks of f and g, on a block of each
   abbrev mask_parts : S → Tapes → Tapes → Tapes
   mask_parts s c d = join (F.mask s c) (G.mask (f.result s c) d)
 
@@ -113,13 +113,13 @@ module _ {m : ℕ} {o : Observer} {S T Z : Type 0} {f : Protocol S T} {g : Proto
         (l.0, λ q w. list_followed q _ _ ∙ ap₂ ◌++◌ (k.1 q w) (l.1 q w) ∙ sym (list_followed q _ _));
   }
 
--- where g is blind on any operands
+-- where g is blind for any operands
 pub blind_then_any : {m : ℕ} {o : Observer} {S T Z : Type 0} {f : Protocol S T} {g : Protocol T Z} {Good : S → Type 0}
     {Same : S → S → Type 0} {Mid : T → T → Type 0} {After : Z → Z → Type 0}
     → Blind m o f Good Same Mid → Blind m o g (λ t. Unit {0}) Mid After → Blind m o (f then g) Good Same After
 blind_then_any F G = blind_then F (λ s a b h. tt) G
 
--- ---- what looks the same to an observer of two runs, and protocols with no mask
+-- ---- what looks the same to an observer of two runs, and protocols without a mask
 
 abbrev pub Alike : Observer → {S T : Type 0} → Protocol S T → (T → T → Type 0) → (s s' : S) (b b' : Tapes) → Type 0
 Alike o f After s s' b b' =
@@ -142,7 +142,7 @@ pub blind-locally : {m : ℕ} {o : Observer} {S T : Type 0} (g : S → T) {Good 
     → ((s s' : S) → Same s s' → After (g s) (g s')) → Blind m o (locally g) Good Same After
 blind-locally g alike = blind_unmasked (λ s s' r b. (alike s s' r, λ q e. refl))
 
--- ---- blindness for one miner, told of that miner alone: its own tape and its received list
+-- ---- blindness for one miner, by its own tape and its received list alone
 
 abbrev pub AlikeFor : Miner → {S T : Type 0} → Protocol S T → (T → T → Type 0) → (s s' : S) (b b' : Tapes) → Type 0
 AlikeFor i f After s s' b b' = After (f.result s b) (f.result s' b') × (list (miner i) (f.received s b) ≡ list (miner i) (f.received s' b'))
@@ -177,7 +177,7 @@ unmasked_for {i = i} {f = f} {After = After} alike = record {
 abbrev pub Seen : {T : Type 0} → (Miner → T → T → Type 0) → Observer → T → T → Type 0
 Seen After o t t' = (i : Miner) → Sees o (miner i) → After i t t'
 
--- an observer that sees miner i and no other miner; if it sees the controller's list, that is the same too
+-- an observer that sees miner i and no other miner, and sees the same in the controller's list if it sees that
 pub blind_as_miner : {m : ℕ} {S T : Type 0} {f : Protocol S T} {Good : S → Type 0} {Same : S → S → Type 0}
     {Mid : T → T → Type 0} {After : Miner → T → T → Type 0}
     (i : Miner) (o : Observer) → ((j : Miner) → Sees o (miner j) → i ≡ j) → BlindFor m i f Good Same Mid → ((t t' : T) → Mid t t' → After i t t')
@@ -207,7 +207,7 @@ blind_as_miner {f = f} {After = After} i o only F after told = record {
     own t u e Two q = subst (λ (x : Miner). tape (owner x) t ≡ tape (owner x) u) (only two q) e
     own t u e Three q = subst (λ (x : Miner). tape (owner x) t ≡ tape (owner x) u) (only three q) e
 
--- a protocol that sends the controller nothing, and is blind for each miner
+-- a protocol that sends the controller nothing and is blind for each miner
 pub blind_silent : {m : ℕ} {S T : Type 0} {f : Protocol S T} {Good : S → Type 0} {Same : Observer → S → S → Type 0} {After : Miner → T → T → Type 0}
     → ((s : S) (b : Tapes) → list controller (f.received s b) ≡ [])
     → ((i : Miner) (o : Observer) → Sees o (miner i) → BlindFor m i f Good (Same o) (After i))

@@ -1,5 +1,5 @@
 -- Masks of one tape, and the mask that most steps share.
--- What miner i comes to know covers, word by word, what the next miner draws.
+-- What miner i receives masked is put, word by word, in place of what the next miner draws.
 use Rattle.std.proofs.Common.{◌≡◌, ℕ, zero, suc, ◌<◌, List, [], ◌∷◌, get_or, sym, refl, ap, ◌∙◌, ap₂, suc-le-suc, le_of_suc-le-suc, zero-lt-suc, arith}
 use Rattle.protocols.specs.declared.place.Party.{Party}
 use Rattle.protocols.specs.declared.place.Party.TheVariants.{Provider, One, Two, Three}
@@ -39,12 +39,12 @@ contents_change One l w h = elim [ Provider ↦ h Provider | One ↦ w | Two ↦
 contents_change Two l w h = elim [ Provider ↦ h Provider | One ↦ h One | Two ↦ w | Three ↦ h Three ]
 contents_change Three l w h = elim [ Provider ↦ h Provider | One ↦ h One | Two ↦ h Two | Three ↦ w ]
 
--- g makes words of the tape of party p, and h takes them back
+-- g gives words for the tape of party p, and h gives the old ones back
 pub record Undone (m : ℕ) (n : Drawn) (p : Party) (g h : Tapes → List ℕ) : Type 0 where
   pub makes : (b : Tapes) → Contents m n b → Words m (count p n) (g b)
   pub undo : (b : Tapes) → Contents m n b → h (change p (g b) b) ≡ tape p b
 
--- a mask g of the tape of party p, which is not miner i, with inverse h
+-- a mask g, with inverse h, of the tape of a party p other than miner i
 pub changed_for : {m : ℕ} {i : Miner} {S T : Type 0} {f : Protocol S T} {Good : S → Type 0} {Same : S → S → Type 0} {After : T → T → Type 0}
     (p : Party) → ((l : List ℕ) (t : Tapes) → tape (owner i) (change p l t) ≡ tape (owner i) t)
     → (g h : S → Tapes → List ℕ) → ((s : S) → Good s → Undone m f.draws p (g s) (h s)) → ((s : S) → Good s → Undone m f.draws p (h s) (g s))
@@ -89,13 +89,13 @@ listed_same zero g h e = refl
 listed_same (suc n) g h e =
     ap₂ (λ (a : ℕ) (l : List ℕ). a ∷ l) (e 0 (zero-lt-suc n)) (listed_same n (λ k. g (suc k)) (λ k. h (suc k)) (λ k l. e (suc k) (suc-le-suc l)))
 
--- ---- the cover: each miner draws n words; word k masks shares x k, each with its miner's own and the previous miner's word
+-- ---- the cover: each miner draws n words; word k of its own and of the previous miner mask its share x k
 
--- the miner after i
+-- the next miner
 abbrev next : Miner → Miner
 next i = prev (prev i)
 
--- where the next miner's tape is changed, miner i's own and the previous miner's stay
+-- a change of the next miner's tape leaves those of miner i and of the previous miner
 kept_own : (i : Miner) (l : List ℕ) (t : Tapes) → tape (owner i) (change (owner (next i)) l t) ≡ tape (owner i) t
 kept_own one l t = refl
 kept_own two l t = refl
@@ -111,7 +111,7 @@ at_words one t k = refl
 at_words two t k = refl
 at_words three t k = refl
 
--- mix x a b: a share x, masked with the own word a and the previous miner's word b
+-- mix x a b: a share x masked with its miner's word a and the previous miner's word b
 pub record Mixes (m : ℕ) (mix : ℕ → ℕ → ℕ → ℕ) : Type 0 where
   pub mix_lt : (x a b : ℕ) → x < m → a < m → b < m → mix x a b < m
   pub mix_mix : (x a b : ℕ) → b < m → mix x a (mix x a b) ≡ b
@@ -133,7 +133,7 @@ module _ (i : Miner) (n : ℕ) (mix : ℕ → ℕ → ℕ → ℕ) where
   abbrev with_cover : (ℕ → Shares) → Tapes → Tapes
   with_cover x b = change (owner (next i)) (cover x b) b
 
-  -- what miner i knows of two runs with the same covered words
+  -- what two runs with the same covered words have in common for miner i
   pub record Known (x x' : ℕ → Shares) (b b' : Tapes) : Type 0 where
     pub before : (k : ℕ) → SameAt (prev i) (words b k) (words b' k)
     pub mixed_own : (k : ℕ) → SameAt i (x k) (x' k) → SameAt i (mix_shares mix (x k) (words b k)) (mix_shares mix (x' k) (words b' k))

@@ -21,7 +21,8 @@ use Rattle.protocols.proofs.Laws.Blind.Ring.{difference_blind}
 use Rattle.protocols.proofs.Laws.Blind.Bit.{bit_blind}
 use Rattle.protocols.proofs.Laws.Blind.Bits.{xor_mix, xor_mixes, bits_blind}
 
--- what looks the same to miner i between two rounds: its share, and the masked shares of the next round, its own and the one that it will receive
+-- what looks the same to miner i between two rounds: its share, and the next round's masked shares, its own and the
+-- one that it is to receive
 record SameFoldState (i : Miner) (h h' : FoldState) : Type 0 where
   p : SameAt i h.p h'.p
   own_p : SameAt i (masked_shares h.p h.q) (masked_shares h'.p h'.q)
@@ -41,7 +42,7 @@ module _ (n : ℕ) where
 
   -- ---- the comparison
 
-  -- for miner 3: the word is what it receives
+  -- for miner 3: what it receives is in place of the word
   abbrev mask-three : Operands → Tapes → List ℕ
   mask-three x t = r₃ m x t ∷ []
 
@@ -79,7 +80,7 @@ module _ (n : ℕ) where
   unfolding first_masks
   first_masks-blind = blind_silent (λ p t. refl) first_masks_for
 
-  -- the shares that round k leaves
+  -- the shares after round k
   abbrev new_p : ℕ → FoldState → Shares
   new_p k h = let p = masked_shares h.p h.q in each (λ i. fold_share (width n) k (at i p) (at (prev i) p))
 
@@ -104,7 +105,7 @@ module _ (n : ℕ) where
   folds-blind zero o = blind_then (compare-blind o) (λ x a t c. comparison-words m pos x t) (first_masks-blind o)
   folds-blind (suc k) o = blind_then_any (folds-blind k o) (fold-blind k o)
 
-  -- ---- equal and below
+  -- ---- Equal and Below
 
   pub equal_blind : {Good : Operands → Type 0} (o : Observer) → Blind (modulus n) o (equal n) Good (SameOperands o) (SameShares o)
   unfolding equal

@@ -1,4 +1,4 @@
--- What one miner has of shares and of received lists, in two runs.
+-- What one miner has of shares and received lists, in two runs.
 use Rattle.std.proofs.Common.{◌≡◌, ℕ, zero, suc, List, [], ◌∷◌, refl, ap, ap₂}
 use Rattle.protocols.specs.declared.shares.Shares.{Shares}
 use Rattle.protocols.specs.Shares.{Miner, one, two, three, prev, at, each, shares, SharesAreWords}
@@ -23,7 +23,7 @@ near_same g one u v u' v' a b c d = cc
 near_same g two u v u' v' a b c d = cc
 near_same g three u v u' v' a b c d = cc
 
--- ---- received lists: the word that the previous miner sends on, and what follows it
+-- ---- received lists: the word from the previous miner, and what follows it
 
 pub next_same : (i : Miner) (s s' : Shares) → SameAt (prev i) s s' → list (miner i) (to_next s) ≡ list (miner i) (to_next s')
 next_same one s s' e = ap (λ (x : ℕ). x ∷ []) e
@@ -36,14 +36,14 @@ next_followed one s s' l l' e d = ap₂ (λ (x : ℕ) (r : List ℕ). x ∷ r) e
 next_followed two s s' l l' e d = ap₂ (λ (x : ℕ) (r : List ℕ). x ∷ r) e d
 next_followed three s s' l l' e d = ap₂ (λ (x : ℕ) (r : List ℕ). x ∷ r) e d
 
--- the word that miner 2 or miner 3 receives
+-- the word that miner 2 or 3 receives
 pub two-three-same : (i : Miner) (a b a' b' : ℕ) → SameAt i (shares 0 a b) (shares 0 a' b')
     → list (miner i) (to_two_three a b) ≡ list (miner i) (to_two_three a' b')
 two-three-same one a b a' b' e = refl
 two-three-same two a b a' b' e = ap (λ (x : ℕ). x ∷ []) e
 two-three-same three a b a' b' e = ap (λ (x : ℕ). x ∷ []) e
 
--- ---- two values by index: the first by 0, the second by any other
+-- ---- one of two values, chosen by an index: the first by 0, the second by any other
 
 abbrev pub pick : ℕ → Shares → Shares → Shares
 pick zero a b = a

@@ -1,4 +1,4 @@
--- Store, the protocols on own shares, reshare, multiply and open are blind.
+-- Store, the local commands, reshare, multiply and open are blind.
 use Rattle.std.proofs.Common.{◌≡◌, ℕ, ◌+◌, ◌<◌, List, [], ◌∷◌, get_or, sym, refl, ap, ◌∙◌, ap₂, arith}
 use Rattle.protocols.specs.declared.place.Party.TheVariants.{Provider, One, Two, Three}
 use Rattle.protocols.specs.declared.shares.Shares.{Shares}
@@ -21,7 +21,7 @@ use Rattle.protocols.proofs.Laws.Blind.Compose.{BlindFor, unmasked_for, blind_un
 use Rattle.protocols.proofs.Laws.Blind.Cover.{Undone, changed_for, listed_get_or, Mixes, cover_for}
 use Rattle.protocols.proofs.Laws.Blind.Miner.{SameAt, own_same, near_same, next_same, next_followed, pick, pick_words}
 
--- ---- on own shares
+-- ---- local commands
 
 module _ (m : ℕ) (o : Observer) where
   pub sum_blind : {Good : Operands → Type 0} → Blind m o (locally (sum m)) Good (SameOperands o) (SameShares o)
@@ -40,7 +40,7 @@ module _ (m : ℕ) (o : Observer) where
 module _ {m : ℕ} (pos : 0 < m) where
   -- ---- store
 
-  -- for miner 3: its share in place of the first word
+  -- for miner 3: its share is in place of the first word
   abbrev mask-three : ℕ → Tapes → List ℕ
   mask-three v b = sub m (sub m v (get_or b.provider 1 0)) (get_or b.provider 0 0) ∷ get_or b.provider 1 0 ∷ []
 
@@ -101,7 +101,7 @@ module _ {m : ℕ} (pos : 0 < m) where
 
   -- ---- open
 
-  -- two of three shares that add up to the same word give the third
+  -- shares with the same sum that agree for two miners agree for the third
   module _ (s s' : Shares) (h : SharesAreWords m s) (h' : SharesAreWords m s') (e : sum_of m s ≡ sum_of m s') where
     third_word : (x x' y : ℕ) → x < m → x' < m → s.one + s.two + s.three ≡ x + y → s'.one + s'.two + s'.three ≡ x' + y → x ≡ x'
     third_word x x' y hx hx' d d' =
@@ -128,7 +128,7 @@ module _ {m : ℕ} (pos : 0 < m) where
       fresh-lt : (s r : Shares) → SharesAreWords m (fresh_shares m s r)
       fresh-lt s r = elim [ one ↦ sub-lt m pos _ _ | two ↦ sub-lt m pos _ _ | three ↦ sub-lt m pos _ _ ]
 
-  -- for the controller: miner 1's and miner 3's fresh shares in place of miner 1's and miner 2's words, and back
+  -- for the controller: the fresh shares of miners 1 and 3 are in place of the words of miners 1 and 2; and the inverse
   abbrev with_masks : Tapes → ℕ → ℕ → Tapes
   with_masks b x y = tapes b.provider (x ∷ []) (y ∷ []) b.three
 
@@ -165,7 +165,7 @@ module _ {m : ℕ} (pos : 0 < m) where
         (λ i e. absurd e, elim [ miner j ↦ λ e. absurd e | controller ↦ λ e. ap (λ (x : Shares). list controller (to_controller x)) all ]);
   }
 
-  -- for a miner that is controller too: all fresh shares are the same
+  -- for a miner that is the controller too: all fresh shares are the same
   opening_for : (i : Miner) → BlindFor m i (opening m) (SharesAreWords m) (SameOpened m (both i)) (λ s s'. s ≡ s')
   unfolding opening
   opening_for i =

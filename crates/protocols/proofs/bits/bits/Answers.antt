@@ -1,4 +1,4 @@
--- `protocols::bits::bits` meets what `deliver` requires: its row.
+-- `protocols::bits::bits` meets what `deliver` requires: its row of Specification: Table of commands
 use Rattle.protocols.proofs.Laws.Counts.{rows_at_32}
 use Rattle.protocols.proofs.bits.bits.Goals as goal
 

@@ -1,4 +1,4 @@
--- `protocols::bits::carried` meets its contract: a round on whole words is the round on each position.
+-- `protocols::bits::carry_round` meets its contract: a round on whole words is the round position by position.
 use Rattle.std.proofs.Common.{◌∙◌, arith}
 use Rattle.protocols.specs.Private.WordForm.{word_p, word_s}
 use Rattle.protocols.proofs.Laws.WordForm.{word_forms}

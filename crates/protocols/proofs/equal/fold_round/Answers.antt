@@ -1,4 +1,4 @@
--- `protocols::equal::folded` meets its contract: a round on whole words is the round on each position.
+-- `protocols::equal::fold_round` meets its contract: a round on whole words is the round position by position.
 use Rattle.std.proofs.Common.{◌∙◌}
 use Rattle.protocols.specs.Private.WordForm.{word_fold}
 use Rattle.protocols.proofs.Laws.WordForm.{word_forms}

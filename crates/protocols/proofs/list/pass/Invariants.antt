@@ -1,4 +1,4 @@
--- The loop of `pass`: lists as long as they were, with each miner's first k words put into them.
+-- The loop of `pass`: the lists keep their lengths and have each miner's first k words.
 use Rattle.std.proofs.Common.{◌≡◌, [], length, take}
 use Rattle.protocols.specs.Place.{lists}
 use Rattle.protocols.specs.Counts.{received_counts}

@@ -1,4 +1,4 @@
--- The loop of `put`: what is left of the words, put after the first k.
+-- The loop of `put`: writing the words from word k on completes the list.
 use Rattle.std.proofs.Common.{◌≡◌, ◌+◌, length, drop}
 use Rattle.std.proofs.lemmas.List.Edits.{sets}
 use Rattle.protocols.proofs.list.put.Given as goal

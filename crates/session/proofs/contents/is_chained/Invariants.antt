@@ -1,4 +1,4 @@
--- The pairs left are is_chained from the place reached just where all are is_chained from 12.
+-- The pairs left are chained from the word reached exactly if all pairs are chained from word 12.
 use Rattle.std.proofs.Common.{◌≡◌, ◌*◌, drop}
 use Rattle.session.specs.Contents.{is_chained}
 use Rattle.session.proofs.contents.is_chained.Given as goal

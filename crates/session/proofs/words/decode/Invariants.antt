@@ -1,4 +1,4 @@
--- The words of the first i blocks are put at the front of the lent ones.
+-- The words of the first i blocks are at the front of the lent ones.
 use Rattle.std.proofs.Common.{◌≡◌, ◌*◌}
 use Rattle.session.proofs.Laws.Words.{with_first_words}
 use Rattle.session.proofs.words.decode.Given as goal

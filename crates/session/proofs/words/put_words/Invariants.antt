@@ -1,4 +1,4 @@
--- The first i words of the bytes are put at the place.
+-- The first i words of the bytes are written from `at` on.
 use Rattle.std.proofs.Common.{◌≡◌}
 use Rattle.session.proofs.Laws.Words.{with_first_words}
 use Rattle.session.proofs.words.put_words.Given as goal

@@ -1,4 +1,4 @@
--- The numbers so far are put behind the text.
+-- The numbers so far are written behind the text.
 use Rattle.std.proofs.Common.{take}
 use Rattle.session.specs.Text.{spaced_numbers}
 use Rattle.session.specs.Private.Writing.{Adds}

@@ -1,4 +1,4 @@
--- The lines of the commands so far are put; those left are of the commands and the shares left.
+-- The lines of the commands so far are written; the other lines are those of the commands and shares left.
 use Rattle.std.proofs.Common.{◌*◌, drop}
 use Rattle.protocols.specs.Word.{modulus}
 use Rattle.session.proofs.Laws.OpenLines.{lines_of_threes}
