@@ -1,4 +1,4 @@
-//! The twin: the engine's three calls in ordinary safe Rust, written for speed from
+//! The twin: the engine's three calls in ordinary safe Rust, written for speed after
 //! docs/SPECIFICATION.md.
 //!
 //! It allocates nothing. A command's draws and received words are arrays of the lengths of its row,

@@ -75,7 +75,7 @@ fn run_commands(tables: &mut Tables, lists: &mut Lists) {
     let tapes = Tapes { provider, one, two, three };
     let mut place = Place::default();
     // The last command is refused and changes nothing.
-    for words in COMMANDS.into_iter().chain([WRONG]) {
+    for &words in COMMANDS.iter().chain(&[WRONG]) {
         let [code, a, b] = words;
         let answer = command(words, &place, tables, &INPUTS, &tapes, lists);
         match answer.refusal() {

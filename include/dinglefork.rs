@@ -353,8 +353,8 @@ pub fn command(
 }
 
 /// Does the commands of a session file in order, until one is refused. The file's words go to the
-/// front of `words`, of which there are [`WORDS`] or more. Refusals 1 to 4 are of the session as a whole: then
-/// nothing is written.
+/// front of `words`, of which there are [`WORDS`] or more. Refusals 1 to 4 are of the session as a
+/// whole: then nothing is written.
 #[rustfmt::skip]
 pub fn session(
     file: &[u8],

@@ -1,20 +1,21 @@
 """Counts how often each record of an observer comes up over contents of the tapes: blindness checked on small words.
 
-The map that blindness needs (Specification: Blindness) exists exactly when each record comes up equally often on both input
-lists. Contents of 32-bit words are too many to go through, so protocol_vectors.py and command_cases.py, which are checked
-against the engine at 32 bits, run here on words of 2^n bits: bits and equal have no rounds at n = 0, one at n = 1, two at
-n = 2. Prints a line for each check; the status is 1 if one fails.
+The map that blindness needs (Specification: Blindness) exists exactly when each record comes up equally often on both
+input lists. Contents of 32-bit words are too many to go through, so protocol_vectors.py and command_cases.py, which are
+checked against the engine at 32 bits, run here on words of 2^n bits: bits and equal have no rounds at n = 0, one at
+n = 1, two at n = 2. Prints a line for each check; the status is 1 if one fails.
 
-A miner's own tape is fixed at a sampled content, and the other tapes go through all contents; for the controller all four
-do. A command reads shares, inputs and words not drawn yet, so runs that agree so far in the record and in all shares go on
-alike and are counted together. Where there are more than MANY contents, words are held at sampled values, as few as needed:
+A miner's own tape is fixed at a sampled content, and the other tapes go through all contents; for the controller all
+four do. A command reads shares, inputs and words not drawn yet, so runs that agree so far in the record and in all
+shares go on alike and are counted together. Where there are more than MANY contents, words are held at sampled values,
+as few as needed:
 
-- First words that nobody uses: the masks drawn after the last round, and all but the lowest bit of a word drawn as a random
-  bit. The record either shows the word as it is or does not depend on it.
+- First words that nobody uses: the masks drawn after the last round, and all but the lowest bit of a word drawn as a
+  random bit. The record either shows the word as it is or does not depend on it.
 - Then words that the observer is sent as they were drawn. Its record shows them, so runs on other values give other
   records: the counts agree as a whole exactly when they agree for each value.
-- Last, for the same reason, the shares that the provider sends to miner 3. They are not drawn: runs with others are left
-  out.
+- Last, for the same reason, the shares that the provider sends to miner 3. They are not drawn: runs with others are
+  left out.
 """
 
 import inspect
@@ -32,8 +33,8 @@ from protocol_vectors import CONTROLLER, MINERS, NEXT, PROVIDER, WIDTH, set_widt
 MANY, SAMPLES = 2**12, words_from(2010)
 CODES = {name: [code] for code, (name, *_) in ROWS.items()} | {"": []}
 OBSERVERS = {1: "miner 1", 2: "miner 2", 3: "miner 3", CONTROLLER: "controller"}
-# Sessions: observers, n, commands, input lists. 'open 1' is 11, 1, 0 and accepted, 'open 9: 7' refused with number 7. Where
-# the controller is an observer, the first two lists give the same opened words, and a third one gives others.
+# Sessions: observers, n, commands, input lists. 'open 1' is 11, 1, 0 and accepted, 'open 9: 7' refused with number 7.
+# Where the controller is an observer, the first two lists give the same opened words, and a third one gives others.
 ALL, NOT_3 = tuple(OBSERVERS), (1, 2)
 REFUSED = "store, 13 0 0: 5, store 0 7: 6, open 9: 7, times constant 1 0, open 2, open 2, store: 11, multiply 1 1: 12, "
 SUMS = "store, times constant 1 0, equal 1 2, multiply 1 1, multiply 1 1, add 3 4, add 3 5, open 6, open 7"
@@ -59,8 +60,8 @@ SESSIONS = {
     "square": (MINERS, 2, "store, multiply 1 1", [[3], [10]]),
     "two rounds": (NOT_3, 2, "store, times constant 1 2, equal 1 2", [[0], [6]]),
 }
-# One thing wrong, the shares still right: text of the class Run and what it becomes, a session, an observer whose counts
-# differ.
+# One thing wrong, the shares still right: text of the class Run and what it becomes, a session, an observer whose
+# counts differ.
 BROKEN = {
     "store masks with one word": ("2: s2, 3: (value - s1 - s2)", "2: s1, 3: (value - s1 - s1)", "store", 3),
     "open sends the stored shares": ("shares[1], shares[2], shares[3]", "s[1], s[2], s[3]", "sums", CONTROLLER),
@@ -71,10 +72,10 @@ BROKEN = {
     "equal masks with own q only": ("*(p[i] for", "*(p[i] ^ masks[0][PREVIOUS[i]] for", "equal", 3),
     "equal uses masks again": ("[p], [q] = self.masked([p], [q])", "[p], _ = self.masked([p], [q])", "two rounds", 2),
 }
-# What parties apart cannot do (Specification: Parties apart): use a share of another party, send words before they can be
-# computed, or let a share that the sender does not have decide who is sent a word, or when. The counts agree all the same,
-# as on the right protocols. Of each: pairs of text, as in BROKEN; a session; the values that words which nobody uses go
-# through, where one of them is sent instead of another. The crate `protocols` has a must-fail edit for each.
+# What parties apart cannot do (Specification: Parties apart): use a share of another party, send words before they can
+# be computed, or let a share that the sender does not have decide who is sent a word, or when. The counts agree all the
+# same, as on the right protocols. Of each: pairs of text, as in BROKEN; a session; the values that words which nobody
+# uses go through, where one of them is sent instead of another. The crate `protocols` has a must-fail edit for each.
 NOT_APART = {
     "reshare adds miner 3's new share to miner 2's": (
         [
@@ -132,8 +133,8 @@ def parsed(text):
 
 
 def fates(code, tape):
-    """Who is sent each word that the command draws from the tape, as it is: miner 1 to 3, nobody (0), or a miner who does
-    not use it (-); a random bit is sent to nobody (b) or to miner 2 (c)."""
+    """Who is sent each word that the command draws from the tape, as it is: miner 1 to 3, nobody (0), or a miner who
+    does not use it (-); a random bit is sent to nobody (b) or to miner 2 (c)."""
     if tape == PROVIDER:
         return "12" if code == 1 else ""
     to, masks = str(NEXT[tape]), {8: 2, 10: 1, 12: 2}.get(code, 0)

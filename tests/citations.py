@@ -2,9 +2,9 @@
 """Checks that the repository depends on nothing outside it: no tracked file cites a document by number, an item of an
 outside list, or a folder of a machine. And that its own citations hold: each rule that is cited is a heading of
 docs/SPECIFICATION.md; docs/CLAIMS.md cites each rule there; each relative link and each path of a page leads to a file,
-and to a heading if it names one; only CHANGELOG.md and docs/history/ link into docs/history/. Prints what is wrong, with
-file and line, and fails, or prints how many files, citations and links it read. It first tries itself on wrong texts of
-each kind; `--try` does only that."""
+and to a heading if it names one; only CHANGELOG.md and docs/history/ link into docs/history/. Prints what is wrong,
+with file and line, and fails, or prints how many files, citations and links it read. It first tries itself on wrong
+texts of each kind; `--try` does only that."""
 import io
 import pathlib
 import re
@@ -14,14 +14,14 @@ import tokenize
 
 TOP = pathlib.Path(__file__).resolve().parent.parent
 RULES, CLAIMS, HISTORY, CHANGELOG = 'docs/SPECIFICATION.md', 'docs/CLAIMS.md', 'docs/history/', 'CHANGELOG.md'
-UNREAD = (HISTORY, 'crates/sessions/data/')
+UNREAD = 'crates/sessions/data/'
 DATA = re.compile(r'(?:^|/)(?:stdin|stdout|args|pooled\.txt|.*\.sums|.*\.session)$')
 WORKED_CASES = 12
 
 # In the whole file, and in its name. No pattern matches itself.
 ANYWHERE = {
     'a document outside': r'(?i)\bdocuments? 0\d|\bp[a]pers?\b|\bb[u]yers?\b|\bm[i]ssion\b',
-    'a promise by number': r'(?i)\b[e]ntr(?:y|ies) [123]\b(?! of\b)|\b[e]ntry[123]\b',
+    'a promise by number': r'(?i)(?<![a-z])[e]ntr(?:y|ies)[\s_*-]{0,3}[123]\b(?! of (?:a|the|each) (?:table|list)\b)',
     'a folder of a machine': r'(?<![\w.*)}$])/(?:h[o]me|w[o]rk|r[o]ot|U[s]ers)/\w',
 }
 # In comments, strings and pages: numbers, but for decimals, dates, bytes and landings; and a letter with a number.
@@ -29,7 +29,11 @@ NUMBER = re.compile(
     r'(?<![\w/#%:+-])(?<!\d[.,])(?<!\blanding )(?<!\b\d[0-9a-f] )0(?:0[0-4]|[12])'
     r'(?![\w%/+]|[.,:]\d|-\d|\.\w| (?:\d[0-9a-f]|[0-9a-f]\d)\b)'
 )
-ITEM = re.compile(r'(?<![\w.+%&])(?<!\s-)[EWCSPRXFAM]\d{1,2}[a-d]?(?![\w(\[]|\.\w|-[a-z0-9])')
+ITEM = re.compile(r'(?<![\w.+%&])(?<!\s-)[EWCSPRXFAM]\d{1,2}[a-d]?(?![A-Za-z0-9(\[]|\.\w|-[a-z0-9])')
+# In the name of a file: either of these at its start, where no landing and no word m12 or m13 of the rule Bit is meant.
+NAME = re.compile(r'(?:^|/)(?!m1[23]_)(?:0(?:0[0-4]|[12])|(?i:[ewcspxfam]\d{1,2}[a-d]?))(?=[_.-]|$)')
+# In data, where many numbers stand alone: a number behind a word that leads to a document, or in brackets.
+DATA_NUMBER = re.compile(r'(?i)\b(?:in|by|of|as|from|see|to|after) 0(?:0[0-4]|[12])\b|\(0(?:0[0-4]|[12])\b')
 # A citation names a rule, or more: `Bits; Carry rounds; Below`.
 CITES = 'Specificatio[n]: '
 END = r'[^.,;)\n]*(?=[.,;)]|$)'
@@ -112,18 +116,24 @@ def outside(path, text):
     for what, pattern in ANYWHERE.items():
         for found in re.finditer(pattern, text):
             yield line_of(text, found.start()), f'{what}: {found.group()!r}'
-        if found := re.search(pattern, re.sub(r'[_./]', ' ', path)):
-            yield 0, f'{what}, in the name of the file: {found.group()!r}'
     prose = prose_of(path, text)
-    for found in () if DATA.search(path) else NUMBER.finditer(prose):
-        whole_string = prose[found.start() - 1 : found.end() + 1] == f'"{found.group()}"'
-        landing = re.match(r'[\w-]+', prose[found.start() :]).group()
-        if not whole_string and not (TOP / 'docs' / 'landings' / f'{landing}.md').exists():
-            yield line_of(prose, found.start()), f'a document by number: {found.group()!r}'
-    # Names in code too.
-    for found in ITEM.finditer(text if path.endswith(CODE) else prose):
+    is_shell = path.endswith('.sh') or text.startswith('#!/bin/sh')
+    for found in DATA_NUMBER.finditer(text) if DATA.search(path) else NUMBER.finditer(text if is_shell else prose):
+        if text[found.start() - 1 : found.end() + 1] != f'"{found.group()}"':
+            yield line_of(text, found.start()), f'a document by number: {found.group()!r}'
+    # Names in code too, and in the code of pages.
+    for found in ITEM.finditer(text if path.endswith((*CODE, '.md')) else prose):
         if not is_own(text, found.start(), found.group()):
             yield line_of(text, found.start()), f'an item of an outside list: {found.group()!r}'
+
+
+def outside_in_name(path):
+    """What the name of a file cites from outside."""
+    for what, pattern in ANYWHERE.items():
+        if found := re.search(pattern, re.sub(r'[_./]', ' ', path)):
+            yield 0, f'{what}, in the name of the file: {found.group()!r}'
+    if not path.startswith('docs/landings/') and (found := NAME.search(path)):
+        yield 0, f'a document or an item by number, in the name of the file: {found.group()!r}'
 
 
 def citations(text, rules):
@@ -176,7 +186,8 @@ def wrong_link(target, path, text, read):
 
 
 def links(path, text, read):
-    """The links and paths of a page, with lines, and what is wrong with each; of other files, files of docs/history/."""
+    """The links and paths of a page, with lines, and what is wrong with each; of other files, files of
+    docs/history/."""
     if not path.endswith('.md'):
         for found in re.finditer(rf'{HISTORY}\w', text):
             yield line_of(text, found.start()), f'a file of {HISTORY}'
@@ -200,7 +211,7 @@ def uncited(rules, claims):
 def check(path, text, rules, read):
     """What is wrong in a file, with lines; how many citations and links it has."""
     cited, linked = list(citations(text, rules)), list(links(path, text, read))
-    wrong = [*outside(path, text), *(link for link in linked if link[1])]
+    wrong = [*outside_in_name(path), *outside(path, text), *(link for link in linked if link[1])]
     wrong += [(line, f'a citation of no rule: {name!r}') for line, name, there in cited if not there]
     return sorted(wrong), len(cited), len(linked)
 
@@ -210,6 +221,7 @@ WRONG = {
     'a document by number': [
         *(('md', f'it is {cited}') for cited in ('(0~1)', 'in 0~1', "0~1's", "'0~1'", '0~2,', 'from 0~1 on', '0~1.')),
         ('md', "it is (0~1: 'a')"),
+        *(('stdout', 'case 3, by 0~1, store'), ('stdout', '(0~0~1) ok'), ('sh', 'echo as 0~1 says')),
         *(('md', f'it is {cited}') for cited in ('(0~0~0, line 2)', '(0~0~1)', '0~0~1, 0~0~2 and', '0~0~3;')),
         *(('rt', '// (0~0~1)'), ('antt', '-- 0~1, "Steps"'), ('sh', "# by 0~1's steps"), ('c', '/* 0~0~2 has it */')),
         *(('py', 'x = "in 0~1"'), ('py', '"""As 0~1 says."""'), ('rs', 'panic!("not as 0~1 says")')),
@@ -219,12 +231,16 @@ WRONG = {
         *(('md', 'the D~ocument 0~1'), ('md', 'the pap~er says'), ('rs', 'fn pap~ers() {}'), ('antt', 'for the buy~er')),
         ('py', 'miss~ion = 1'),
     ],
-    'a promise by number': [('md', 'the en~try 3'), ('antt', 'pub record Ent~ry3'), ('rt', 'fn en~try1() {}')],
+    'a promise by number': [
+        *(('md', 'the en~try 3'), ('antt', 'pub record Ent~ry3'), ('rt', 'fn en~try1() {}'), ('rs', 'fn en~try_1() {}')),
+        *(('md', 'the en~try\n2'), ('md', 'by en~try-1'), ('md', 'by en~tries 1 and 3')),
+    ],
     'an item of an outside list': [
         *(('md', f'as {item} asks') for item in ('E~1a', 'W~5', 'C~13', 'S~4', 'P~7', 'R~4', 'M~12', 'X~1', 'F~10')),
-        *(('md', 'R~2, A~3'), ('md', 'M~1-M~4'), ('md', '| M~7 |'), ('antt', '-- (M~7)'), ('stdout', 'M~1 store')),
+        *(('md', 'R~2, A~3'), ('md', 'M~1-M~4'), ('md', '| M~7 |'), ('md', '`E~1a`'), ('antt', '-- (M~7)')),
+        ('stdout', 'M~1 store'),
         *(('antt', 'pub M~7 : a -- M~7'), ('rt', 'fn f() {} // by fn M~7')),
-        ('rs', 'assert!(true, "M~7: sum");'),
+        *(('rs', 'assert!(true, "M~7: sum");'), ('rt', 'let M~7_sum = 0;'), ('antt', '  pub M~11_less : 1')),
     ],
     'a folder of a machine': [('sh', 'cd /ho~me/someone'), ('md', 'in /wo~rk/main')],
     'a citation of no rule': [
@@ -268,6 +284,9 @@ def try_itself(rules, read):
         said = [what for _, what in check(path, text, rules, read)[0]]
         if not any(what.startswith(due) for what in said) if due else said:
             sys.exit(f'citations: a try, {text!r} in {path}: {said}')
+    for name in ('must-fail/W~5_gone.edit', 'docs/0~1-scope.md', 'tests/E~1a.py', 'data/m~10_65536', 'pap~er.md'):
+        if not any(outside_in_name(name.replace('~', ''))):
+            sys.exit(f'citations: a try, the name {name!r}')
     claims = 'Specification~: Below. [x](SPECIFICATION.md#carry-rounds)'.replace('~', '')
     if uncited(['Below', 'Bits', 'Carry rounds'], claims) != ['Bits']:
         sys.exit('citations: a try, rules that the claims do not cite')
@@ -277,7 +296,7 @@ def try_itself(rules, read):
 def tracked():
     listed = subprocess.run(['git', 'ls-files', '-z'], cwd=TOP, capture_output=True, check=True).stdout.decode()
     for path in filter(None, listed.split('\0')):
-        if (TOP / path).is_file() and (path == f'{HISTORY}README.md' or not path.startswith(UNREAD)):
+        if (TOP / path).is_file() and (path == f'{HISTORY}README.md' or not path.startswith(HISTORY)):
             yield path
 
 
@@ -297,7 +316,10 @@ def main():
     files = cited = linked = failed = 0
     for path in tracked():
         text = read(path)
-        if '\0' in text:
+        if path.startswith(UNREAD) or '\0' in text:
+            for _, what in outside_in_name(path):
+                print(f'{path}: {what}')
+                failed += 1
             continue
         wrong, more_cited, more_linked = check(path, text, rules, read)
         files, cited, linked, failed = files + 1, cited + more_cited, linked + more_linked, failed + len(wrong)

@@ -1,9 +1,9 @@
 #!/usr/bin/env python3
 """Checks that each claim of specs/ is the contract of a function of src/promises.rt, and that each of these functions
-promises a claim, so that none is lost. And that the claims say what was agreed: tests/claims.sums has a checksum of each
-file that states a claim, or one of the definitions that claims are made of, so that a new premise is seen. Prints what
-is missing and fails, or prints how many claims there are. `--agree` writes the checksums anew: only for someone who has
-read what the changed files claim."""
+promises a claim, so that none is lost. And that the claims say what was agreed: tests/claims.sums has a checksum of
+each file that states a claim, or one of the definitions that claims are made of, so that a new premise is seen. Prints
+what is missing and fails, or prints how many claims there are. `--agree` writes the checksums anew: only for someone
+who has read what the changed files claim."""
 import hashlib
 import pathlib
 import re

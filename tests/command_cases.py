@@ -1,15 +1,15 @@
 """The command machine, written a second time, and the cases that it gives for the crate `machine`.
 
-Written from docs/SPECIFICATION.md (Specification: Lent lists; Table of commands; Accepted commands; Order of refusals), and
-sharing no code with the crate. The commands stand on protocol_vectors.py, the protocols written a second time. The program
-`crates/commands` reads the cases from its stdin, runs them on the proved library and has to write its stdout.
+It follows docs/SPECIFICATION.md (Specification: Lent lists; Table of commands; Accepted commands; Order of refusals)
+and shares no code with the crate. The commands stand on protocol_vectors.py, the protocols written a second time. The
+program `crates/commands` reads the cases from its stdin, runs them on the proved library and has to write its stdout.
 
     python3 tests/command_cases.py            both files must be what this script makes, else the status is 1
     python3 tests/command_cases.py --write    writes both
 
 Each refusal is tested by itself, so every number that applies is known, and the lowest is answered. A case says which
-numbers it is there for, and is held to that. A register machine runs beside the shares, which have to combine to its words
-(Specification: Registers).
+numbers it is there for, and the script fails if it gives others. A register machine runs beside the shares, which have
+to combine to its words (Specification: Registers).
 """
 
 import functools

@@ -1,6 +1,6 @@
 #!/usr/bin/env python3
-"""Prints what the test program `formats` has to print: refusals, shortages and kinds by name and in words, and records as
-`Debug` prints them. Takes no arguments. The sentences stand here a second time. Specification: Sentences."""
+"""Prints what the test program `formats` has to print: refusals, shortages and kinds by name and in words, and records
+as `Debug` prints them. Takes no arguments. The sentences stand here a second time. Specification: Sentences."""
 
 REFUSALS = {
     "NotWhole": "the file is under 48 bytes or ends within a word; send the whole file, 4 bytes a word",

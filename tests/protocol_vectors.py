@@ -1,14 +1,14 @@
 """The three-miner protocols, written a second time, and the vectors that they give for the crate `protocols`.
 
-Written bit by bit from report T-4-10 (algorithms 1, 3, 4 and 5) and from docs/SPECIFICATION.md
-(Specification: Order of words; Store; Reshare; Open; Below), and sharing no code with the crate. The program
+It works bit by bit, after report T-4-10 (algorithms 1, 3, 4 and 5) and docs/SPECIFICATION.md
+(Specification: Order of words; Store; Reshare; Open; Below), and shares no code with the crate. The program
 `crates/vectors` runs the same cases on the proved library and has to write the same text. To write it anew:
 
     python3 tests/protocol_vectors.py > crates/vectors/stdout
 
-A protocol moves only the drawn counts of the place record: the commands move the others. If a tape has too few words left,
-the number is 12, else, if a received list has too little room, 13: then the shares are 0, 0, 0, the place record stays, and
-no word is sent. Else the number is 0, and each party's words go to the front of its list.
+A protocol moves only the drawn counts of the place record: the commands move the others. If a tape has too few words
+left, the number is 12, else, if a received list has too little room, 13: then the shares are 0, 0, 0, the place record
+stays, and no word is sent. Otherwise the number is 0, and each party's words go to the front of its list.
 """
 
 from types import SimpleNamespace
@@ -43,7 +43,8 @@ def bit_of(word, j):
 
 
 def and_(a, j, b, k):
-    """Shares of the 'and' of bit j of a and bit k of b: report T-4-10, algorithm 4, line 22. Specification: Shared and."""
+    """Shares of the 'and' of bit j of a and bit k of b.
+    Specification: Shared and; report T-4-10, algorithm 4, line 22."""
     x, y = {i: bit_of(a[i], j) for i in MINERS}, {i: bit_of(b[i], k) for i in MINERS}
     return {i: (x[i] & y[i]) ^ (x[i] & y[PREVIOUS[i]]) ^ (x[PREVIOUS[i]] & y[i]) for i in MINERS}
 
@@ -69,7 +70,7 @@ class Run:
         self.received[party].extend(words)
 
     def masks(self, count):
-        """Each miner draws `count` words and sends them on; answers the three first ones, then the three second ones."""
+        """Each miner draws `count` words and sends them on; answers the three first, then the three second words."""
         drawn = {i: [self.draw(i) for _ in range(count)] for i in MINERS}
         for i in MINERS:
             self.send(NEXT[i], *drawn[i])
@@ -111,7 +112,8 @@ class Run:
         return {1: 0, 2: (1 - m12) % WIDTH.ring, 3: -m13 % WIDTH.ring} if s23 ^ s32 == 1 else {1: 0, 2: m12, 3: m13}
 
     def masked(self, shared, masks):
-        """Each shared word with its masks taken on, sent on; then new masks: report T-4-10, algorithm 4, lines 14 to 17."""
+        """Masks each shared word and sends it, then draws and sends new masks.
+        Report T-4-10, algorithm 4, lines 14 to 17."""
         shared = [each(lambda i: p[i] ^ q[i] ^ q[PREVIOUS[i]]) for p, q in zip(shared, masks)]
         for i in MINERS:
             self.send(NEXT[i], *(p[i] for p in shared))
@@ -160,8 +162,8 @@ class Run:
         return self.bit(self.bits(each(lambda i: u[i] - v[i])), WIDTH.bits - 1)
 
 
-# Operands (u and v are shares, w is an input, a constant or a position), protocol, received words of miners 1 to 3 and the
-# controller, drawn words of the provider and miners 1 to 3, both at 32 bits. Specification: Table of commands.
+# Operands (u and v are shares, w is an input, a constant or a position), protocol, received words of miners 1 to 3 and
+# the controller, drawn words of the provider and miners 1 to 3, both at 32 bits. Specification: Table of commands.
 COMMANDS = {
     "store": ("w", lambda run, u, v, w: run.store(w), [1, 1, 1, 0], [2, 0, 0, 0]),
     "add": ("uv", lambda run, u, v, w: each(lambda i: u[i] + v[i]), [0, 0, 0, 0], [0, 0, 0, 0]),
@@ -214,7 +216,7 @@ WORKED = {
 
 
 def words_from(x):
-    """The words of the cases: a congruential generator, its high bits folded into the low ones, which repeat too soon."""
+    """The words of the cases: a congruential generator. Its low bits repeat too soon: the high ones are folded in."""
     while True:
         x = (1664525 * x + 1013904223) % RING
         yield x ^ x // 2**16
@@ -258,8 +260,8 @@ def worked():
 
 
 def exact(tapes, need, short=None):
-    """Tapes that end just after the words needed, behind those that the place record 1 to 10 counts; the short one a word
-    earlier."""
+    """Tapes that end just after the words needed, behind those that the place record 1 to 10 counts; the short one ends
+    a word earlier."""
     return [tape[: 3 + x + n - (x == short)] for x, (tape, n) in enumerate(zip(tapes, need))]
 
 
@@ -272,8 +274,8 @@ def deliver(place, lists, number, shares, moved, received):
 
 
 def deliveries(name, operands, tapes, need):
-    """Ends of the lists 100 to 131 with exactly enough room, with more, and with a word less in one list; then in a tape
-    too."""
+    """Ends of the lists 100 to 131 with exactly enough room, with more, and with a word less in one list; then in a
+    tape too."""
     counts, place, whole = COMMANDS[name][2], list(range(1, 11)), list(range(100, 132))
     first = next(x for x, n in enumerate(need) if n)
     lines = [("exact", 0, None, None), ("more", 2, None, None)]

@@ -1,6 +1,6 @@
 #!/bin/sh
-# The tests that need no build: the stored files of `vectors`, `commands` and `formats`, the worked runs and sessions, and
-# the counted records.
+# The tests that need no build: the stored files of `vectors`, `commands` and `formats`, the worked runs and sessions,
+# and the counted records.
 set -eu
 cd "$(dirname "$0")/.."
 python3 tests/protocol_vectors.py | cmp - crates/vectors/stdout

@@ -1,7 +1,7 @@
 """One worked run of each command, for the prover to check by computation.
 
-The numbers are those of command_cases.py, which shares no code with the engine. All words that are lent, but for the kinds,
-are different. To write the file of crates/machine anew:
+The numbers are those of command_cases.py, which shares no code with the engine. All words that are lent, but for the
+kinds, are different. To write the file of crates/machine anew:
 
     python3 tests/worked_runs.py > crates/machine/specs/WorkedRuns.antt
 """
@@ -131,7 +131,8 @@ pub record WorkedRuns : Type 0 where"""
 
 
 def all_lists():
-    """Large words where a list is filled, small ones behind: 101, 102 .. in the first share table, 201 .. in the second."""
+    """Large words where a list is filled, small ones behind: 101, 102 .. in the first share table, 201 .. in the
+    second."""
     words = words_from(22)
     lists = {name: [next(words) for _ in range(HELD[name] + MORE[name])] for name in (*TABLES, INPUTS, *TAPES, *LISTS)}
     for n, name in enumerate((*TABLES, *LISTS), 1):

@@ -1,6 +1,7 @@
 """The worked session, one that stops, the empty one and a file of no word, for the prover to check by computation.
 
-The numbers are those of command_cases.py, which shares no code with the engine. To write the file of crates/session anew:
+The numbers are those of command_cases.py, which shares no code with the engine. To write the file of crates/session
+anew:
 
     python3 tests/worked_session.py > crates/session/specs/Worked.antt
 
@@ -78,7 +79,7 @@ $stopped_left
 
 -- promised by `worked_session`: whatever words are lent, if there are $fewest or more, the bytes of these three files
 -- give exactly these answers and texts, and leave exactly these shares, kinds and received words, every list whole, and
--- the file's words in front of the lent ones, which else stay as they were. A file of no word is refused.
+-- the file's words at the front of the lent ones; the lent words behind them stay. A file of no word is refused.
 -- Specification: Worked sessions; Sessions.
 pub record WorkedSession : Type 0 where
   -- four commands are done

@@ -59,8 +59,10 @@ prints_what_is_stored() {
 # The examples, over the archive and over the shared object.
 c99 pooled_c examples/pooled.c
 prints_what_is_stored "$built/pooled_c"
-rust 2021 pooled_rust examples/pooled.rs
-prints_what_is_stored "$built/pooled_rust"
+for edition in 2018 2021 2024; do
+    rust "$edition" pooled_rust examples/pooled.rs
+    prints_what_is_stored "$built/pooled_rust"
+done
 cc -std=c99 $warnings -Iinclude -o "$built/pooled_c_shared" examples/pooled.c "$shared" -Wl,-rpath,"$PWD/target/shared"
 prints_what_is_stored "$built/pooled_c_shared"
 prints_what_is_stored python3 examples/pooled.py

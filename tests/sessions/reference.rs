@@ -1,4 +1,4 @@
-//! The reference: the engine written a second time from docs/SPECIFICATION.md for clarity.
+//! The reference: the engine written a second time, for clarity, after docs/SPECIFICATION.md.
 //! It shares no code with the engine under test.
 //!
 //! This file has the session call and the text of `pool`. They stand on the command machine, and

@@ -29,8 +29,8 @@ done
 # Seeded sessions, by the program, the session call and the pool call.
 "$built/differential" 20000 target/bin/pool
 
-# If reading fails (a folder) or writing fails (a full device), `pool` says so on standard error and fails; a failed read
-# prints no text.
+# If reading fails (a folder) or writing fails (a full device), `pool` says so on standard error and fails; a failed
+# read prints no text.
 if target/bin/pool < examples > "$fresh/text" 2> "$fresh/read"; then exit 1; fi
 test ! -s "$fresh/text"
 test -s "$fresh/read"

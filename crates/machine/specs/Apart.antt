@@ -15,7 +15,7 @@ use Rattle.machine.specs.Lent.{Lent, tables, sizes, table}
 use Rattle.machine.specs.Run.{RunResult, Reply, reply, run, run_to_refusal}
 use Rattle.machine.specs.Claims.{Appended}
 
--- a party's own part of the lent lists, apart from its tape: the provider's inputs, a miner's share table
+-- a party's own part of the lent lists, besides its tape: the provider's inputs, a miner's share table
 abbrev pub own_part : Party → Lent → List ℕ
 own_part Provider l = l.inputs
 own_part One l = l.tables.one
@@ -79,7 +79,7 @@ SameRunView runs p z k = (i : Miner) (l l' : Lent)
     → list (miner i) (runs p l).lent.received ≡ list (miner i) (runs p l').lent.received
     → table i (runs p l).lent.tables ≡ table i (runs p l').lent.tables
 
--- the lent lists l, but with part and tape from l' for each party for which `first` is false
+-- the lent lists l, but a party for which `first` is false has its own part and its tape from l'
 abbrev pub mixed_lent : (Party → Bool) → Lent → Lent → Lent
 mixed_lent first l l' =
     let its = λ (i : Miner). cond (first (owner i)) (table i l.tables) (table i l'.tables) in
@@ -89,8 +89,9 @@ mixed_lent first l l' =
       tapes = mixed_tapes first l.tapes l'.tapes;
     }
 
--- promised by `mixed_runs`: if two runs that have programs leave the same received lists, so does each run in which
--- every party has part and tape of the one or of the other, and each miner ends with its table of that one
+-- promised by `mixed_runs`: let two runs that have programs leave the same received lists. Then a run in which each
+-- party has its own part and its tape from the one or from the other leaves these lists too, and each miner ends with
+-- its table after the run from which it has its own
 pub record MixedRuns (runs : Place → Lent → RunResult) (p : Place) (l l' : Lent) (first : Party → Bool) : Type 0 where
   pub received : (runs p l).lent.received ≡ (runs p l').lent.received
       → (runs p (mixed_lent first l l')).lent.received ≡ (runs p l).lent.received

@@ -37,13 +37,13 @@ use Rattle.machine.specs.Refusals.{Applies, Lowest}
 
 -- ---- the table of commands at 32 bits; Specification: Table of commands
 
--- the command of the code w is x, and its line is r
+-- the command of the code w is x, and its row is r
 abbrev pub IsRow : ℕ → Code → Row → Type 0
 IsRow w x r = (code_named w ≡ Ok x) × (row 5 x ≡ r)
 
--- A line: use of a and b; kinds of operands and new value; how many new values and inputs; received words (miners 1, 2,
+-- A row: use of a and b; kinds of operands and new value; how many new values and inputs; received words (miners 1, 2,
 -- 3, controller); drawn words (provider, miners 1, 2, 3).
--- promised by `table_at_32`: kinds, codes and lines are those of the table; Specification: Table of commands
+-- promised by `table_at_32`: kinds, codes and rows are those of the table; Specification: Table of commands
 pub record TableAt32 : Type 0 where
   pub ring_value : kind_number RingValue ≡ 1
   pub bit_word : kind_number BitWord ≡ 2
@@ -103,7 +103,7 @@ module _ (n : ℕ) (c : Command) (p : Place) (l : Lent) where
 
   -- ---- agreement: what an accepted command answers and writes
 
-  -- each of the ten counts has moved on by the line of x; Specification: Accepted commands
+  -- each of the ten counts has moved on by the row of x; Specification: Accepted commands
   pub record PlaceMoved (x : Code) : Type 0 where
     pub handles : command_end.answer.place.handles ≡ p.handles + (row n x).values
     pub inputs : command_end.answer.place.inputs ≡ p.inputs + (row n x).inputs
@@ -155,8 +155,8 @@ module _ (n : ℕ) (c : Command) (p : Place) (l : Lent) where
       let f = protocol n x c.b in
       f.received (arguments l.tables l.inputs p c) (block f.draws p l.tapes)
 
-  -- the protocol draws as many words as the line of x says, and as many are received, which are those that it sends;
-  -- Specification: Accepted commands
+  -- the protocol draws, and sends to each party, as many words as the row of x says, and each received list gains the
+  -- words that are sent to it; Specification: Accepted commands
   pub record Counts (x : Code) : Type 0 where
     pub drawn : (protocol n x c.b).draws ≡ (row n x).drawn
     pub received : (r : Receiver) → length (list r (delivered_words x)) ≡ count_for r (row n x).received
@@ -175,7 +175,7 @@ module _ (n : ℕ) (c : Command) (p : Place) (l : Lent) where
   abbrev pub IfAccepted : Code → Type 0 → Type 0
   IfAccepted x Then = code_named c.code ≡ Ok x → number_answered ≡ 0 → Then
 
-  -- promised by `command_agreement`: the command does what the register machine and its line of the table say, and
+  -- promised by `command_agreement`: the command does what the register machine and its row of the table say, and
   -- changes nothing else; Specification: Registers, Specification: Accepted commands
   pub record CommandAgreement : Type 0 where
     -- the number and the place record are the register machine's
@@ -186,11 +186,12 @@ module _ (n : ℕ) (c : Command) (p : Place) (l : Lent) where
         → let r = register_at (step n c (sizes l) l.inputs (starting_registers n p l)).held h in
         (entry command_end.lent.kinds h ≡ r.kind)
         × (combined_word (modulus n) r.kind (shares_at command_end.lent.tables h) ≡ r.word)
-    -- an accepted command follows its line of the table
+    -- an accepted command follows its row of the table
     pub place_counts : (x : Code) → IfAccepted x (PlaceMoved x)
     pub value : (x : Code) → IfAccepted x (NewValue x)
     pub counts : (x : Code) → IfAccepted x (Counts x)
-    -- an accepted open opens its register's word, every other command 0 (a refused open: CommandRefusals)
+    -- an accepted open opens its register's word, and a command that is no open opens 0; for a refused open see
+    -- CommandRefusals
     pub opened : c.code ≡ 11 → number_answered ≡ 0 → OpenedRight
     pub not_opened : ¬ (c.code ≡ 11) → command_end.answer.opened ≡ 0
     -- no entry but the new handle's is written

@@ -45,7 +45,7 @@ opened_word n x s = cond (opens_value x) (sum_of (modulus n) s) 0
 
 -- ---- what an accepted command writes; Specification: Accepted commands
 
--- a list, with w at a position if there is a new value (the first argument counts new values)
+-- a list, with w at a position unless the first argument, the count of new values, is 0
 abbrev pub with_entry : ℕ → List ℕ → ℕ → ℕ → List ℕ
 with_entry zero l at w = l
 with_entry (suc k) l at w = set l at w

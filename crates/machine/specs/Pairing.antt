@@ -2,8 +2,8 @@
 use Rattle.std.specs.Prelude.{◌≡◌}
 use Rattle.protocols.specs.Place.{Tapes}
 
--- `to` gives each content that is Ok a partner that is Ok, one to one and onto, and Alike holds of content and partner;
--- Specification: Blindness
+-- `to` is a one-to-one map of the contents that are `Ok` onto themselves, and `Alike` holds of each content and its
+-- partner; Specification: Blindness
 pub record Pairing (Ok : Tapes → Type 0) (Alike : Tapes → Tapes → Type 0) : Type 0 where
   pub to : Tapes → Tapes
   pub to_ok : (t : Tapes) → Ok t → Ok (to t)

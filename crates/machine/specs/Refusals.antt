@@ -1,4 +1,4 @@
--- When each refusal from 4 to 13 applies to a command, line by line; Specification: Table of refusals.
+-- When each refusal from 4 to 13 applies to a command, row by row; Specification: Table of refusals.
 use Rattle.std.specs.Prelude.{ℕ, ◌-◌, ◌≤◌, ◌<◌, ◌≡◌, length, Ok}
 use Rattle.protocols.specs.declared.place.Party.{Party}
 use Rattle.protocols.specs.declared.place.Place.{Place}
@@ -43,12 +43,12 @@ abbrev pub field : Field → Command → ℕ
 field a c = c.a
 field b c = c.b
 
--- what a line of the table uses a field for
+-- what a row of the table uses a field for
 abbrev pub use_of : Field → Row → Use
 use_of a x = x.a
 use_of b x = x.b
 
--- the refusal of the number applies to the command c from the place p on the lent lists l;
+-- the refusal with this number applies to the command c from the place p on the lent lists l;
 -- Specification: Table of refusals
 pub data Applies (n : ℕ) (c : Command) (p : Place) (l : Lent) : ℕ → Type 0 where
   -- 4: the kind list and one of the share tables differ in length

@@ -55,7 +55,8 @@ with_register (suc k) l r = l ++ (r ∷ [])
 abbrev pub judge : ℕ → Command → Sizes → Registers → Verdict
 judge n c z m = verdict n c m.place z (map (λ r. r.kind) m.held)
 
--- after an accepted command: its new register, if any, and its line's counts; after a refused one: the same machine; Specification: Registers
+-- an accepted command adds its new register, if there is one, and the counts of its row; a refused one changes
+-- nothing; Specification: Registers
 abbrev pub next_registers : ℕ → Verdict → Command → List ℕ → Registers → Registers
 next_registers n (Accepted x) c inputs m =
     let w =

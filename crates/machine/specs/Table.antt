@@ -55,13 +55,13 @@ abbrev pub kind_number : Kind → ℕ
 kind_number RingValue = 1
 kind_number BitWord = 2
 
--- a line of the table: use of a and b, kinds of operands and new value, how many new values and inputs there are, words
+-- a row of the table: use of a and b, kinds of operands and new value, how many new values and inputs there are, words
 -- received and words drawn; Specification: Table of commands
 abbrev pub row_of : Use → Use → Kind → Kind → ℕ → ℕ → Received → Drawn → Row
 row_of a b operands kind values inputs k d =
     record { a = a; b = b; operands = operands; kind = kind; values = values; inputs = inputs; received = k; drawn = d }
 
--- each command's line, with its counts for words of 2 ^ n bits; Specification: Table of commands
+-- each command's row, with its counts for words of 2 ^ n bits; Specification: Table of commands
 abbrev pub row : ℕ → Code → Row
 row n Store = row_of Unused Unused RingValue RingValue 1 1 (received_counts 1 1 1 0) (counts 2 0 0 0)
 row n Add = row_of Handle Handle RingValue RingValue 1 0 (received_counts 0 0 0 0) (counts 0 0 0 0)
@@ -79,11 +79,11 @@ row n Open = row_of Handle Unused RingValue RingValue 0 0 (received_counts 1 1 1
 row n Below = row_of Handle Handle RingValue RingValue 1 0
     (received_counts (2 + 4 * n) (8 + 4 * n) (8 + 4 * n) 0) (counts 0 (8 + 2 * n) (2 + 2 * n) (2 + 2 * n))
 
--- the line is that of open, the only command from which the controller receives words
+-- the row is that of open, the only command from which the controller receives words
 abbrev pub opens_value : Row → Bool
 opens_value x = nat_lt 0 x.received.controller
 
--- the place record, moved on by the counts of a line; Specification: Accepted commands
+-- the place record, moved on by the counts of a row; Specification: Accepted commands
 abbrev pub with_row : Place → Row → Place
 with_row p x = record {
   handles = p.handles + x.values;

@@ -133,7 +133,7 @@ lists_have x p z =
 
 -- ---- all tests, in the order of their numbers; Specification: Order of refusals
 
--- refusals 6 to 11, for a command with the line x
+-- refusals 6 to 11, for a command with the row x
 abbrev pub row_checks : ℕ → Row → Command → Place → ℕ → ℕ → List ℕ → CheckResult
 row_checks n x c p entries inputs kinds =
     check FieldNotZero (unused_zero x c)
@@ -146,7 +146,7 @@ row_checks n x c p entries inputs kinds =
 abbrev pub supply_verdict : Row → Place → Sizes → Verdict → Verdict
 supply_verdict x p z next = test TapeSpent (tapes_have x p z) (test ListFull (lists_have x p z) next)
 
--- refusals 6 to 13, for a command with the line x
+-- refusals 6 to 13, for a command with the row x
 unfoldable pub row_verdict : ℕ → Row → Command → Place → Sizes → List ℕ → Verdict → Verdict
 row_verdict n x c p z kinds next = after_checks (row_checks n x c p z.one z.inputs kinds) (supply_verdict x p z next)
 

@@ -22,7 +22,7 @@ pub struct Accepted {
 pub struct Answer {
     /// 0 if the command is accepted, else the refusal's number, 4 to 13.
     pub number: u32,
-    /// The place record after the command; after a refusal that before it.
+    /// The place record after the command; a refused command leaves it as it was.
     pub place: Place,
     /// The opened word of an accepted open, otherwise 0.
     pub opened: u32,

@@ -1,4 +1,4 @@
-//! The twelve commands in the order of their codes, each with its line of the table and its protocol;
+//! The twelve commands in the order of their codes, each with its row of the table and its protocol;
 //! Specification: Table of commands. Below, a and b are the values of the handles in these fields, and all sums,
 //! differences and products are modulo 2^32.
 ghost use Rattle.machine.specs.Table as codes;

@@ -1,4 +1,4 @@
-//! What each command has: its line of the table, and its protocol; Specification: Table of commands.
+//! What each command has: its row of the table, and its protocol; Specification: Table of commands.
 ghost use Rattle.std.specs.Prelude.{◌≡◌};
 ghost use Rattle.protocols.specs.Protocol.{perform};
 ghost use Rattle.protocols.specs.Outcome.{outcome, delivery_of, delivery};
@@ -19,7 +19,7 @@ pub trait Operation {
     /// Which command it is.
     ghost code: { Code };
 
-    /// Its line of the table.
+    /// Its row of the table.
     fn row() -> Row
         ensures { result ≡ table.row 5 code };
 

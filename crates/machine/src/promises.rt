@@ -15,7 +15,7 @@ ghost use Rattle.machine.specs.WorkedRuns.{WorkedRuns};
 ghost use Rattle.machine.specs.declared.refusal.Refusal.{Refusal};
 ghost use Rattle.machine.specs.Texts.{RefusalNumbers, RefusalTexts, KindTexts};
 
-/// Kinds, codes and lines are those of the table; Specification: Table of commands.
+/// Kinds, codes and rows are those of the table; Specification: Table of commands.
 pub fn table_at_32()
     ensures { claims.TableAt32 }
 {}
@@ -109,8 +109,8 @@ pub fn same_run_view()
         → HasPrograms runs p z k → SameRunView runs p z k }
 {}
 
-/// If two runs that have programs leave the same received lists, so does each run in which every party has part and
-/// tape of the one or of the other.
+/// If two runs that have programs leave the same received lists, so does each run in which every party has its own part
+/// of the lent lists and its tape from the one or from the other.
 pub fn mixed_runs()
     ensures { (runs : Place → Lent → RunResult) (p : Place) (z : Sizes) (k : List ℕ) → HasPrograms runs p z k
         → (l l' : Lent) → sizes l ≡ z → sizes l' ≡ z → l.kinds ≡ k → l'.kinds ≡ k

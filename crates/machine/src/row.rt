@@ -1,4 +1,4 @@
-//! A line of the table of commands; Specification: Table of commands.
+//! A row of the table of commands; Specification: Table of commands.
 ghost use Rattle.std.specs.Prelude.{◌≡◌};
 ghost use Rattle.protocols.specs.Place.{counts};
 ghost use Rattle.protocols.specs.Counts.{received_counts};
@@ -20,7 +20,7 @@ pub enum Use {
     Position,
 }
 
-/// A command's line of the table: the place record moves on by its counts; Specification: Accepted commands.
+/// A command's row of the table: the place record moves on by its counts; Specification: Accepted commands.
 #[derive(Clone, Copy, Debug, PartialEq, Eq)]
 pub struct Row {
     /// What field a is.

@@ -1,1 +1,2 @@
+-- Laws that the proofs of this crate use.
 mod CommandLine

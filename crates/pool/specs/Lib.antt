@@ -1,1 +1,2 @@
+-- What the contracts of `pool` say of its arguments.
 pub mod Arguments

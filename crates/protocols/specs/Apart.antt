@@ -48,14 +48,14 @@ pub record ByItself (B : Type 0) (r : ℕ) (p : Party → Process r B) : Type 0 
   pub agree : let c = connect r p in Agree B r c.sent p c.received
   pub only : let c = connect r p in (w : Lists) → Agree B r c.sent p w → w ≡ c.received
 
--- promised by `same_protocol_view`: if a protocol is played apart, then a miner that in two runs has the Same before,
--- draws the same words and receives the same words has the same share after both
+-- promised by `same_protocol_view`: if a protocol is played apart, and in two runs of it a miner has the same before it
+-- (`Same`), draws the same words and receives the same words, then the miner has the same share after both
 abbrev pub SameProtocolView : {S : Type 0} → Protocol S Shares → (Miner → S → S → Type 0) → Type 0
 SameProtocolView {S} f Same = (i : Miner) (s s' : S) (b b' : Tapes)
     → Same i s s' → tape (owner i) b ≡ tape (owner i) b'
     → list (miner i) (f.received s b) ≡ list (miner i) (f.received s' b') → at i (f.result s b) ≡ at i (f.result s' b')
 
--- miner 2 has miner 1's share, and no word is sent
+-- a protocol that gives miner 2 the share of miner 1, although no word is sent
 abbrev pub magic : Protocol Shares Shares
 magic = locally (λ s. shares s.one s.one s.three)
 
@@ -79,9 +79,10 @@ mixed_tapes first b b' =
     let its = λ (i : Party). cond (first i) (tape i b) (tape i b') in
     tapes (its Provider) (its One) (its Two) (its Three)
 
--- promised by `mixed_protocol_runs`: if a protocol is played apart and two runs deliver the same words, then so does
--- each run in which every party has its part of the one or of the other, and each miner ends as in that one. So
--- nobody's words, the provider's and those for the controller among them, are made from what only another party has
+-- promised by `mixed_protocol_runs`: let a protocol be played apart, and let two runs of it deliver the same words.
+-- Then a run in which each party has what it has in the one or in the other delivers these words too, and each miner
+-- ends as in the run from which it has its own. So no word, not even one that the provider sends or the controller
+-- receives, is made from what only another party has
 pub record MixedProtocolRuns {S : Type 0} (f : Protocol S Shares) (mixed : (Party → Bool) → S → S → S) : Type 0 where
   pub received : (first : Party → Bool) (s s' : S) (b b' : Tapes) → f.received s b ≡ f.received s' b'
       → f.received (mixed first s s') (mixed_tapes first b b') ≡ f.received s b

@@ -7,7 +7,7 @@ use Rattle.protocols.specs.Shares.{one, at, each, shares}
 use Rattle.protocols.specs.Place.{Tapes, counts, word, to_two_three, ◌followed_by◌}
 use Rattle.protocols.specs.Protocol.{Protocol}
 
--- bit j of each share; in the steps below u are these bits
+-- bit j of each share; from m₁₃ to converted_shares, u stands for these bits
 abbrev pub bits_at : ℕ → Shares → Shares
 bits_at j u = each (λ i. bit_at (at i u) j)
 
@@ -39,7 +39,7 @@ s₂₃ u t = bit_xor (b₁₂ t) u.two
 abbrev pub s₃₂ : Shares → Tapes → ℕ
 s₃₂ u t = bit_xor (b₁₃ t) u.three
 
--- the shares of the bit, with m₁₂ and m₁₃ as x and y: these if s = 0, and of 1 less their sum if s = 1
+-- shares of x + y if s = 0, and of 1 - (x + y) if s = 1; x is m₁₂, y is m₁₃
 abbrev pub chosen_shares : ℕ → ℕ → ℕ → ℕ → Shares
 chosen_shares m s x y = shares 0 (choose s x (sub m 1 x)) (choose s y (sub m 0 y))
 

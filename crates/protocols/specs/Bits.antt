@@ -72,7 +72,7 @@ exchange n = record {
 
 -- ---- round k; report T-4-10, algorithm 4, lines 13 to 22; Specification: Carry rounds
 
--- the source of position j: the last position in the lower half of the run of 2 ^ (k + 1) positions that j is in
+-- the source of position j: the last position in the lower half of the block of 2 ^ (k + 1) positions that j is in
 unfoldable pub source : ℕ → ℕ → ℕ
 source k j = 2 ^ k + 2 ^ suc k * (j / 2 ^ suc k) - 1
 

@@ -43,9 +43,10 @@ SameOperands o x x' = SameShares o x.u x'.u × SameShares o x.v x'.v
 abbrev pub SameOpened : ℕ → Observer → Shares → Shares → Type 0
 SameOpened m o s s' = SameShares o s s' × (Sees o controller → sum_of m s ≡ sum_of m s')
 
--- For Good operands s, `mask s` maps the drawn words one to one onto as many words below m and keeps the observer's
--- own, and `unmask s` maps them back. Two runs with the same masked words, on operands that look the Same to the
--- observer, deliver the same words to it and leave what looks the same After.
+-- For operands s that are `Good`, `mask s` maps the contents that the drawn words may have one to one onto themselves,
+-- and keeps the words of the tapes that the observer holds; `unmask s` is its inverse. Two runs whose masked words are
+-- equal, on operands that look the same to the observer (`Same`), deliver the same words to it, and their results look
+-- the same to it (`After`).
 pub record Blind (m : ℕ) (o : Observer) {S T : Type 0} (f : Protocol S T)
     (Good : S → Type 0) (Same : S → S → Type 0) (After : T → T → Type 0) : Type 0 where
   pub mask : S → Tapes → Tapes

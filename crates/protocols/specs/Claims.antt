@@ -63,15 +63,15 @@ pub record BitsCombine (n : ℕ) : Type 0 where
       → sum_of (modulus n) ((below n).result x b)
       ≡ bit_at (sub (modulus n) (sum_of (modulus n) x.u) (sum_of (modulus n) x.v)) (width n - 1)
 
--- ---- 2. Each protocol draws and delivers what its row says, and all that it makes of words are words;
+-- ---- 2. Each protocol draws and delivers what its row says, and what it makes from words are words;
 -- Specification: Table of commands
 
 -- a row: the words received by miners 1, 2, 3 and controller, and the words drawn by provider and miners 1, 2, 3
 abbrev pub HasRow : ℕ → {S : Type 0} → Protocol S Shares → (S → Type 0) → Received → Drawn → Type 0
 HasRow n f Good k d = HasCounts (modulus n) f Good (SharesAreWords (modulus n)) d k
 
--- promised by `rows`: on words of 2 ^ n bits each protocol draws and delivers exactly its row's counts, and makes words
--- of words
+-- promised by `rows`: on words of 2 ^ n bits each protocol draws and delivers exactly its row's counts, and what it
+-- makes from words are words
 pub record Rows (n : ℕ) : Type 0 where
   pub store_row : HasRow n (store (modulus n)) (λ v. v < modulus n) (received_counts 1 1 1 0) (counts 2 0 0 0)
   pub sum_row :
@@ -149,10 +149,10 @@ pub record SourceIs (k j : ℕ) : Type 0 where
   pub agrees : source k j / 2 ^ suc k ≡ j / 2 ^ suc k
   pub highest : (i : ℕ) → i < j → bit_at i k ≡ 0 → i / 2 ^ suc k ≡ j / 2 ^ suc k → i ≤ source k j
 
--- ---- 5. A protocol is spent exactly if a tape that it draws from has too few words left; Specification: Draws
+-- ---- 5. A protocol answers `spent` exactly if a tape that it draws from has too few words left; Specification: Draws
 
--- promised by `draw_is`: a draw of k words is 0, the next k words and the place moved on by them, or, exactly if fewer
--- than k are left, 12, no words and the place as it was; the code's Some and None are these two
+-- promised by `draw_is`: a draw of k words answers 0, the next k words and the place moved on by them. Exactly if fewer
+-- than k are left, it answers 12, no words and the place as it was. The code's Some and None are these two answers
 pub record DrawIs (k : ℕ) (i : Party) (l : List ℕ) (p : Place) : Type 0 where
   pub drawn_if : k ≤ length l - count i p.drawn
       → draw k i l p
@@ -170,13 +170,13 @@ pub record DrawIs (k : ℕ) (i : Party) (l : List ℕ) (p : Place) : Type 0 wher
 abbrev pub Lacks : Drawn → Place → Tapes → Party → Type 0
 Lacks n p t i = length (tape i t) - count i p.drawn < count i n
 
--- promised by `on_tapes`: on lent tapes a protocol is spent exactly if a tape has too few words left for its draws, and
--- otherwise done on exactly the next words; tapes that it does not draw from do not count
+-- promised by `on_tapes`: on lent tapes a protocol answers `spent` exactly if a tape has too few words left for its
+-- draws; otherwise it is done on exactly the next words. Tapes that it does not draw from make no difference
 pub record OnTapes {S T : Type 0} (f : Protocol S T) (s : S) (p : Place) (t : Tapes) : Type 0 where
   pub spent_if : (i : Party) → Lacks f.draws p t i → perform f s p t ≡ spent
   pub done_if : ((i : Party) → ¬ Lacks f.draws p t i)
       → let b = block f.draws p t in perform f s p t ≡ done (f.result s b) (f.received s b) (advance p f.draws)
-  -- the words drawn are those of each tape from the place on, and by them alone the place is moved
+  -- the words drawn are the next ones of each tape; the place moves on by their counts and by nothing else
   pub next_words : (i : Party) → tape i (block f.draws p t) ≡ take (count i f.draws) (drop (count i p.drawn) (tape i t))
   pub next_place :
       let n = f.draws in
@@ -190,8 +190,8 @@ pub record OnTapes {S T : Type 0} (f : Protocol S T) (s : S) (p : Place) (t : Ta
   pub other_tapes : (t' : Tapes) → ((i : Party) → 0 < count i f.draws → tape i t ≡ tape i t')
       → perform f s p t ≡ perform f s p t'
 
--- promised by `delivers`: a done protocol is refused with 13 exactly if a list lacks room, and then nothing changes;
--- otherwise every list begins with its words, and the rest of it is as it was
+-- promised by `delivers`: a protocol that is done on the tapes is refused with 13 exactly if a list lacks room, and
+-- then nothing changes; otherwise every list begins with its words, and the rest of it is as it was
 pub record Delivers (p : Place) (l : Lists) (s : Shares) (w : Lists) (q : Place) : Type 0 where
   pub full_if : (r : Receiver) → length (list r l) < length (list r w)
       → delivery p (done s w q) l
@@ -201,7 +201,7 @@ pub record Delivers (p : Place) (l : Lists) (s : Shares) (w : Lists) (q : Place)
       ≡ record { outcome = record { number = 0; shares = s; place = q }; lists = with_fronts l w }
   pub begins : ((r : Receiver) → length (list r w) ≤ length (list r l))
       → (r : Receiver) → list r (with_fronts l w) ≡ list r w ++ drop (length (list r w)) (list r l)
-  -- a spent protocol: number 12, the place and every list as they were
+  -- if a tape is spent: number 12, the place and every list as they were
   pub spent_if : delivery p spent l
       ≡ record { outcome = record { number = 12; shares = shares 0 0 0; place = p }; lists = l }
 

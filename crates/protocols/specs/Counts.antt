@@ -41,8 +41,8 @@ count_for (miner two) k = k.two
 count_for (miner three) k = k.three
 count_for controller k = k.controller
 
--- The protocol draws n words and delivers k words, whatever the operands and the drawn words. If the operands are Good
--- and the drawn words are below m, then each delivered word is below m and the result is Made.
+-- The protocol draws n words and delivers k words, whatever the operands and the drawn words. If the operands are
+-- `Good` and the drawn words are below m, then each delivered word is below m and the result is `Made`.
 pub record HasCounts (m : ℕ) {S T : Type 0} (f : Protocol S T) (Good : S → Type 0) (Made : T → Type 0)
     (n : Drawn) (k : Received) : Type 0 where
   pub drawn : f.draws ≡ n

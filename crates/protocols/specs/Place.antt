@@ -109,7 +109,7 @@ to_next s = lists (s.three ∷ []) (s.one ∷ []) (s.two ∷ []) []
 abbrev pub to_two_three : ℕ → ℕ → Lists
 to_two_three a b = lists [] (a ∷ []) (b ∷ []) []
 
--- each miner receives its share
+-- each miner receives the share with its number
 abbrev pub to_each : Shares → Lists
 to_each s = lists (s.one ∷ []) (s.two ∷ []) (s.three ∷ []) []
 

@@ -4,8 +4,8 @@ use Rattle.protocols.specs.declared.place.Drawn.{Drawn}
 use Rattle.protocols.specs.declared.place.Place.{Place}
 use Rattle.protocols.specs.Place.{Tapes, Lists, counts, plus, cut, rest, silence, ◌followed_by◌, advance, enough, block}
 
--- a step from what the miners hold, of type S, and as many words of each tape as `draws` says, to what they hold then,
--- of type T, and the words that each party receives
+-- From what the miners hold before it, of type S, and from as many words of each tape as `draws` counts, a protocol
+-- makes what the miners hold after it, of type T, and the words that each party receives.
 pub record Protocol (S T : Type 0) : Type 0 where
   pub draws : Drawn
   pub result : S → Tapes → T

@@ -13,6 +13,6 @@ dealt_shares m v b =
     let s₂ = slice_index_or b.provider 1 0 in
     shares s₁ s₂ (sub m (sub m v s₁) s₂)
 
--- each miner receives its share; Specification: Store
+-- miner i receives sᵢ; Specification: Store
 unfoldable pub store : ℕ → Protocol ℕ Shares
 store m = record { draws = counts 2 0 0 0; result = dealt_shares m; received = λ v b. to_each (dealt_shares m v b) }

@@ -98,7 +98,7 @@ fn first_shares(d: Shares, r2: u32, r3: u32) -> Shares
     ])
 }
 
-// The comparison of d, the difference of the operands, with 0, with the first round's masks.
+// Compares d, the difference of the operands, with 0: sends its words and the first round's masks.
 #[tactic(auto, unfolding(crate::specs::Equal::compare))]
 fn compare(
     d: Shares,

@@ -25,7 +25,8 @@ pub struct Tapes<'a> {
 
 /// The received lists of the miners and of the controller, each from its first free entry on and of any length. A
 /// protocol writes each party's words to the front of its list.
-// Each function that is lent them ensures `SameLists`: only by that does the check find what a list holds after a call.
+// Each function that is lent them ensures `SameLists`: without it the check does not find what a list holds after a
+// call.
 #[repr(C)]
 #[derive(Drop)]
 pub struct Lists<'a> {

@@ -28,7 +28,7 @@ pub fn bits_combine()
     ensures { (n : ℕ) → BitsCombine n }
 {}
 
-/// Every protocol draws and delivers as many words as its row says, and makes words of words.
+/// Every protocol draws and delivers as many words as its row says, and what it makes from words are words.
 pub fn rows()
     ensures { (n : ℕ) → Rows n }
 {}
@@ -54,12 +54,13 @@ pub fn source_is()
     ensures { (k j : ℕ) → bit_at j k ≡ 1 → SourceIs k j }
 {}
 
-/// A draw is 0, the words and the moved place; or 12 and the place as it was, if too few words are left.
+/// A draw answers 0, the words and the moved place, or 12 and the place as it was if too few words are left.
 pub fn draw_is()
     ensures { (k : ℕ) (i : Party) (l : List ℕ) (p : Place) → DrawIs k i l p }
 {}
 
-/// A protocol is spent exactly if a tape has too few words left, for protocols on an input, on one value and on two.
+/// A protocol answers `spent` exactly if a tape has too few words left, for protocols on an input, on one value and on
+/// two.
 pub fn on_tapes()
     ensures of_input { (f : Protocol ℕ Shares) (s : ℕ) (p : Place) (t : Tapes) → OnTapes f s p t }
     ensures of_shares { (f : Protocol Shares Shares) (s : Shares) (p : Place) (t : Tapes) → OnTapes f s p t }

@@ -82,7 +82,7 @@ state_after_stop =
 
 -- promised by `worked_session`: whatever words are lent, if there are 7692 or more, the bytes of these three files
 -- give exactly these answers and texts, and leave exactly these shares, kinds and received words, every list whole, and
--- the file's words in front of the lent ones, which else stay as they were. A file of no word is refused.
+-- the file's words at the front of the lent ones; the lent words behind them stay. A file of no word is refused.
 -- Specification: Worked sessions; Sessions.
 pub record WorkedSession : Type 0 where
   -- four commands are done

@@ -142,7 +142,7 @@ fn positions(cases: &mut Cases) {
         ("position_2147483648", 1 << 31, 9),
         ("position_4294967295", u32::MAX, 9),
     ] {
-        // Position 31 is taken, 32 refused; larger ones are refused too.
+        // 31 is the highest position; every larger one is refused.
         let mut commands = BEFORE.to_vec();
         commands.extend([[BIT, 3, position], [OPEN, 4, 0]]);
         cases.run(name, number, &commands, &[0x8000_0001, 5]);

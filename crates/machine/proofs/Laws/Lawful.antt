@@ -73,7 +73,7 @@ own_both g = record { u = g.u; v = g.v }
 
 -- ---- the laws of a command
 
--- the new handle has the row's kind, and the command's value of what the operands' shares combine to
+-- the new handle has the kind of the row, and its value is the command's, from what the operands' shares combine to
 abbrev pub NewHandle : ℕ → Command → Place → Lent → Code → Type 0
 NewHandle n c p l x =
     let k = kind_number (row n x).kind in

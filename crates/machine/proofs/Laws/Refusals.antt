@@ -51,7 +51,7 @@ checks_tests true true false d e f next = refl
 checks_tests true false c d e f next = refl
 checks_tests false b c d e f next = refl
 
--- ---- each test decides its line of the table
+-- ---- each test decides its row of the table
 
 row-value : (n : ℕ) (x : Code) → 0 < (row n x).values → (row n x).values ≡ 1
 row-value n x h = omega (arith, h, (lawful x).one_value n)

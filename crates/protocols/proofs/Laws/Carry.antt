@@ -75,7 +75,7 @@ unfoldable pub carry_s : ℕ → ℕ → ℕ → ℕ → ℕ
 carry_s w zero p s = s
 carry_s w (suc k) p s = round_s w k (carry_p w k p) 0 (carry_s w k p s) 0
 
--- C j is the carry into position j; s and p give the carry out of j from the carry into j's run of 2 ^ k positions
+-- C j is the carry into position j; s and p give the carry out of j from the carry into j's block of 2 ^ k positions
 unfoldable CarriesOut : ℕ → (ℕ → ℕ) → ℕ → ℕ → ℕ → Type 0
 CarriesOut w C k p s = (j : ℕ) → j < w → C (suc j) ≡ bit_xor (bit_at s j) (bit_and (bit_at p j) (C (start k j)))
 

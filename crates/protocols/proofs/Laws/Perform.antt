@@ -163,7 +163,7 @@ perform_agree f s p t t' h = rw (enough_agree f.draws p t t' h, block_agree f.dr
 pub followed_by_silence : (l : Lists) → l followed_by silence ≡ l
 followed_by_silence l = λ i. lists (append-nil l.one i) (append-nil l.two i) (append-nil l.three i) (append-nil l.controller i)
 
--- f is done: the miners hold x, its words, which k counts, made l from the lists l₀, and the place is q
+-- f is done: the miners hold x, and the place is q; its words, which k counts, turned the lists l₀ into l
 pub record Performance {S T : Type 0} (f : Protocol S T) (s : S) (p : Place) (t : Tapes) (l₀ : Lists) (x : T) (l : Lists) (k : Received) (q : Place) : Type 0 where
   pub words : Lists
   pub is : perform f s p t ≡ done x words q

@@ -1,4 +1,4 @@
--- The source of a position in a carry round, and the runs of positions that it lies in.
+-- The source of a position in a carry round, and the blocks of positions that it lies in.
 use Rattle.std.proofs.Common.{◌≡◌, ℕ, suc, ◌+◌, ◌-◌, ◌*◌, ◌/◌, ◌%◌, ◌^◌, ◌<◌, ◌≤◌, sym, ap, ◌∙◌, mul_assoc, mul_comm, add-mul, pow-suc, div-add-mod', div-mul-le_self, mul-div_cancel, add-one, arith, pow_pos, shr-shr}
 use native.Mathlib.Nat.{add-div_left, div-eq_of_lt, mul-mod_left, lt-div-mul-add}
 use lib.Pow.{high, ones_lt}
@@ -9,11 +9,11 @@ use Rattle.protocols.specs.Claims.{SourceIs}
 shr-suc : (x k : ℕ) → x / 2 ^ k / 2 ≡ x / 2 ^ suc k
 shr-suc x k = rw (shr-shr x k 1, add-one)
 
--- the start of the run of 2 ^ k positions that j is in
+-- the start of the block of 2 ^ k positions that j is in
 unfoldable pub start : ℕ → ℕ → ℕ
 start k j = j / 2 ^ k * 2 ^ k
 
--- the start of a run, by the halves of the run
+-- the start of a block, by the halves of the block
 start_even : (k j : ℕ) → start (suc k) j ≡ j / 2 ^ suc k * 2 * 2 ^ k
 unfolding start
 start_even k j = ap (λ (x : ℕ). j / 2 ^ suc k * x) (pow-suc 2 k ∙ mul_comm (2 ^ k) 2) ∙ sym (mul_assoc (j / 2 ^ suc k) 2 (2 ^ k))
@@ -34,7 +34,7 @@ start-clear k j e = omega (arith, rw e at (start_split k j))
 pub start-set : (k j : ℕ) → bit_at j k ≡ 1 → start k j ≡ start (suc k) j + 2 ^ k
 start-set k j e = omega (arith, rw e at (start_split k j))
 
--- ---- the source is the last position of the run's lower half
+-- ---- the source is the last position of the block's lower half
 
 pub suc-source : (k j : ℕ) → suc (source k j) ≡ start (suc k) j + 2 ^ k
 unfolding source start

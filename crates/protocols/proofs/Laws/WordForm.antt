@@ -35,7 +35,7 @@ bit_upper : (k i : ℕ) → i < 2 ^ k → bit_at (2 ^ k + i) k ≡ 1
 unfolding bit_at
 bit_upper k i h = rw (add-div_left i (pow_pos k), div-eq_of_lt h)
 
--- ---- the spread over r runs of 2 ^ (k + 1) positions, as a product
+-- ---- the spread over r blocks of 2 ^ (k + 1) positions, as a product
 
 unfoldable spread_in : ℕ → ℕ → ℕ → ℕ
 spread_in k r x = bit_and x (sources_in k r) * (2 ^ (2 ^ k) - 1) * 2

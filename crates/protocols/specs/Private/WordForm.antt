@@ -5,7 +5,7 @@ use Rattle.protocols.specs.Masked.{and_share}
 
 -- ---- round k of Bits
 
--- the sources of round k in r runs of 2 ^ (k + 1) positions: the last position of each run's lower half
+-- the sources of round k in r blocks of 2 ^ (k + 1) positions: the last position of each block's lower half
 unfoldable pub sources_in : ℕ → ℕ → ℕ
 sources_in k zero = 0
 sources_in k (suc r) = sources_in k r * 2 ^ (2 ^ suc k) + 2 ^ (2 ^ k - 1)

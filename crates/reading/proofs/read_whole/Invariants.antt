@@ -1,4 +1,4 @@
--- `reading::read_whole` has filled the front of the buffer with the bytes that the input gave; the buffer's length stays.
+-- The loop of `read_whole`: the bytes that the input gave are at the front of the buffer, whose length stays.
 use Rattle.std.proofs.Common.{length, take, ◌-◌, ◌≡◌, ◌≤◌}
 use Rattle.std.specs.Io.KnownBytes.{Consumes}
 use Rattle.reading.proofs.read_whole.Given as goal

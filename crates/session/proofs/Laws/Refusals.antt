@@ -20,7 +20,7 @@ use Rattle.session.proofs.Laws.ContentsTests.{due-due_start, Broken, by_chain, O
 abbrev pub FirstRefusal : (ℕ → Type 0) → ℕ → ℕ → Type 0
 FirstRefusal = Exact (λ v. v ≡ 0) (λ r. r) (λ r. r)
 
--- ---- each test decides its line of the table of refusals
+-- ---- each test decides its row of the table of refusals
 
 module _ (file w : List ℕ) (s : State) where
   pub bounds : {q : ℕ} → AppliesToSession file w s q → (1 ≤ q) × (q ≤ 4)

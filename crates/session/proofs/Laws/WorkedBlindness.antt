@@ -1,4 +1,4 @@
--- Blindness of the worked session's commands, from that of all: the maps of tapes, and what equal records have in common.
+-- Blindness of the worked session's commands, from that of all: the maps of tapes, and equal records part by part.
 use Prim.Native.Nat.{ℕ, zero, suc, ◌<◌, ◌^◌}
 use mathlib.Core.Path.{◌≡◌, refl, sym, ap, ap₂, ◌∙◌, subst}
 use mathlib.Core.Bool.{cond}
@@ -116,7 +116,8 @@ words_led_to-refused r c cs z i m = rw (ne_eqb (code_number r) 0 (λ e. omega (a
 accepts : (c : Command) (p : Place) (z : Sizes) (kinds : List ℕ) (x y : Code) → code_named c.code ≡ Ok x → verdict 5 c p z kinds ≡ Accepted y → y ≡ x
 accepts c p z kinds x y e v = let f = sym (all_passed 5 y c p z kinds v).known ∙ e in cc
 
--- two machines with the same counts and kinds open the same words from the command x on, if they do so where it is accepted
+-- two machines with the same counts and kinds open the same words from the command x on, if they do so when x is
+-- accepted
 turn : (c : Command) (cs : List Command) (z : Sizes) (i j : List ℕ) (m k : Registers) (x : Code) → code_named c.code ≡ Ok x → judge 5 c z m ≡ judge 5 c z k
     → opened_register 5 (Accepted x) c m ≡ opened_register 5 (Accepted x) c k
     → opened_registers_to_refusal 5 cs z i (next_registers 5 (Accepted x) c i m) ≡ opened_registers_to_refusal 5 cs z j (next_registers 5 (Accepted x) c j k)

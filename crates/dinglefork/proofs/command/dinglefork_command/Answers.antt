@@ -1,4 +1,5 @@
--- `dinglefork_command` meets its contract. The check would prove this by itself; by this answer other tapes are refused for a false equation.
+-- `dinglefork_command` meets its contract. The check can prove this without an answer; the answer is here so that an
+-- edit that passes other tapes is refused because an equation is false.
 use Rattle.dinglefork.proofs.command.dinglefork_command.Goals as goal
 
 pub returns-clause-done : goal.returns-clause-done

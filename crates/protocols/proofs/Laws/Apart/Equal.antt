@@ -82,7 +82,7 @@ folds_apart : (n k : ℕ) → PlayedApart (folds n k) pair own_fold_state
 unfolding folds
 folds_apart n = apart-with_rounds (apart_then (compare_apart n) first_masks_apart) (fold_apart n)
 
--- ---- then Bit on position 0
+-- ---- the bit that the rounds leave, converted
 
 pub equal_apart : (n : ℕ) → PlayedApart (equal n) pair share
 unfolding equal

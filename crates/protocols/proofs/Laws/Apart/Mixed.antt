@@ -47,7 +47,7 @@ module _ (o o' : Party → Lists) (l l' : Lists) (times : sent_lengths o ≡ sen
   later_alike : l ≡ l'
   later_alike = by_list (λ q. (words_alike q).1)
 
--- ---- four programs mixed from two fours
+-- ---- four programs, each from one of two sets of four
 
 abbrev first_round : SentCounts → List SentCounts → SentCounts
 first_round t [] = t
@@ -57,7 +57,7 @@ abbrev later_rounds : List SentCounts → List SentCounts
 later_rounds [] = []
 later_rounds (t ∷ times) = times
 
--- each party's from the one four or from the other
+-- what each party has in c or, if `first` is false for it, in c'
 abbrev pub mixed : {B : Type 0} → (Party → Bool) → (Party → B) → (Party → B) → Party → B
 mixed first c c' i = cond (first i) (c i) (c' i)
 
@@ -96,7 +96,7 @@ pub tape-mixed : (first : Party → Bool) (b b' : Tapes) (i : Party)
     → tape i (mixed_tapes first b b') ≡ mixed first (λ j. tape j b) (λ j. tape j b') i
 tape-mixed first b b' = elim [ Provider ↦ refl | One ↦ refl | Two ↦ refl | Three ↦ refl ]
 
--- from s, from s', and from u, of which each party has its part of s or of s'
+-- the runs from s, from s', and from u, in which each party has its part of s or of s'
 module _ {S A : Type 0} {f : Protocol S Shares} {part : Party → S → A} (F : PlayedApart f part share)
     (first : Party → Bool) (s s' u : S) (its : (i : Party) → part i u ≡ mixed first (λ j. part j s) (λ j. part j s') i)
     (b b' : Tapes) where
