@@ -20,7 +20,7 @@ WORKED_CASES = 12
 
 # In the whole file, and in its name. No pattern matches itself.
 ANYWHERE = {
-    'a document outside': r'(?i)\bdocuments? 0\d|\bp[a]pers?\b|\bb[u]yers?\b|\bm[i]ssion\b',
+    'a document outside': r'(?i)\bdocuments? 0\d|\b0(?:0[0-4]|[12])-[a-z]|\bp[a]pers?\b|\bb[u]yers?\b|\bm[i]ssion\b',
     'a promise by number': r'(?i)(?<![a-z])[e]ntr(?:y|ies)[\s_*-]{0,3}[123]\b(?! of (?:a|the|each) (?:table|list)\b)',
     'a folder of a machine': r'(?<![\w.*)}$])/(?:h[o]me|w[o]rk|r[o]ot|U[s]ers)/\w',
 }
@@ -30,8 +30,8 @@ NUMBER = re.compile(
     r'(?![\w%/+]|[.,:]\d|-\d|\.\w| (?:\d[0-9a-f]|[0-9a-f]\d)\b)'
 )
 ITEM = re.compile(r'(?<![\w.+%&])(?<!\s-)[EWCSPRXFAM]\d{1,2}[a-d]?(?![A-Za-z0-9(\[]|\.\w|-[a-z0-9])')
-# In the name of a file: either of these at its start, where no landing and no word m12 or m13 of the rule Bit is meant.
-NAME = re.compile(r'(?:^|/)(?!m1[23]_)(?:0(?:0[0-4]|[12])|(?i:[ewcspxfam]\d{1,2}[a-d]?))(?=[_.-]|$)')
+# In the name of a file: such a number at its start, or such an item that is no word of the rules Store and Bit.
+NAME = re.compile(r'(?:(?:^|/)0(?:0[0-4]|[12])|(?:^|[/_-])(?!s[123]|m1[23])(?i:[ewcspxfam]\d{1,2}[a-d]?))(?=[_.-]|$)')
 # In data, where many numbers stand alone: a number behind a word that leads to a document, or in brackets.
 DATA_NUMBER = re.compile(r'(?i)\b(?:in|by|of|as|from|see|to|after) 0(?:0[0-4]|[12])\b|\(0(?:0[0-4]|[12])\b')
 # A citation names a rule, or more: `Bits; Carry rounds; Below`.
@@ -46,6 +46,7 @@ LINK = re.compile(
     re.M,
 )
 PATH = re.compile(r'`((?:bench|crates|docs|examples|include|tests|tools|\.ci)/[\w./-]+)`')
+PATH_IN_CODE = re.compile(r'(?<![\w/.])((?:bench|docs|examples|include|tests|tools)/[\w./-]*\.(?:md|svg|py|sh|rs|c|h))\b')
 NOTES = (CHANGELOG, 'docs/landings/')  # they name files of their own time
 FENCED = re.compile(r'^(```|~~~).*?^\1', re.M | re.S)
 # Comments and strings. Characters too, so that a quotation mark in one opens no string.
@@ -132,7 +133,7 @@ def outside_in_name(path):
     for what, pattern in ANYWHERE.items():
         if found := re.search(pattern, re.sub(r'[_./]', ' ', path)):
             yield 0, f'{what}, in the name of the file: {found.group()!r}'
-    if not path.startswith('docs/landings/') and (found := NAME.search(path)):
+    if found := NAME.search(path):
         yield 0, f'a document or an item by number, in the name of the file: {found.group()!r}'
 
 
@@ -191,6 +192,9 @@ def links(path, text, read):
     if not path.endswith('.md'):
         for found in re.finditer(rf'{HISTORY}\w', text):
             yield line_of(text, found.start()), f'a file of {HISTORY}'
+        for found in PATH_IN_CODE.finditer(prose_of(path, text)):
+            wrong = None if (TOP / found[1]).exists() else f'a path to no file: {found[1]}'
+            yield line_of(text, found.start()), wrong
         return
     for found in LINK.finditer(without(r'`[^`\n]*`(?!\])', without(FENCED, text))):
         target = next(filter(None, found.groups()))
@@ -229,7 +233,7 @@ WRONG = {
     ],
     'a document outside': [
         *(('md', 'the D~ocument 0~1'), ('md', 'the pap~er says'), ('rs', 'fn pap~ers() {}'), ('antt', 'for the buy~er')),
-        ('py', 'miss~ion = 1'),
+        *(('py', 'miss~ion = 1'), ('md', 'in `0~1-scope.md`')),
     ],
     'a promise by number': [
         *(('md', 'the en~try 3'), ('antt', 'pub record Ent~ry3'), ('rt', 'fn en~try1() {}'), ('rs', 'fn en~try_1() {}')),
@@ -250,9 +254,9 @@ WRONG = {
         *(('md', 'worked c~ase 13'), ('md', 'worked c~ases 1 to 14')),
     ],
     'a link to no file': [
-        *(('md', '[a](NO.md)'), ('md', '<img src="docs/no.svg">'), ('md', '[a]: docs/no.svg'), ('md', '[a](../x)')),
+        *(('md', '[a](NO.md)'), ('md', '<img src="docs/~no.svg">'), ('md', '[a]: docs/~no.svg'), ('md', '[a](../x)')),
     ],
-    'a path to no file': [('md', 'see `tests/none.py`')],
+    'a path to no file': [('md', 'see `tests/~none.py`'), ('rt', '// See docs/~NONE.md.')],
     'a link to no heading': [('md', '[a](README.md#none)'), ('md', '# A\n[a](#b)')],
     'a link into': [('md', '[a](docs/history/)'), ('md', '[a](docs/history)')],
     'a file of': [('sh', '# see docs/history/~README.md')],
@@ -284,7 +288,7 @@ def try_itself(rules, read):
         said = [what for _, what in check(path, text, rules, read)[0]]
         if not any(what.startswith(due) for what in said) if due else said:
             sys.exit(f'citations: a try, {text!r} in {path}: {said}')
-    for name in ('must-fail/W~5_gone.edit', 'docs/0~1-scope.md', 'tests/E~1a.py', 'data/m~10_65536', 'pap~er.md'):
+    for name in ('W~5_gone.edit', 'docs/0~1-scope.md', 'E~1a.py', 'data/m~10_65536', 'test_e~1a.py', 'pap~er.md'):
         if not any(outside_in_name(name.replace('~', ''))):
             sys.exit(f'citations: a try, the name {name!r}')
     claims = 'Specification~: Below. [x](SPECIFICATION.md#carry-rounds)'.replace('~', '')

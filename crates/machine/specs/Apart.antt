@@ -91,7 +91,7 @@ mixed_lent first l l' =
 
 -- promised by `mixed_runs`: let two runs that have programs leave the same received lists. Then a run in which each
 -- party has its own part and its tape from the one or from the other leaves these lists too, and each miner ends with
--- its table after the run from which it has its own
+-- the table that it has after the run from which its part and tape come
 pub record MixedRuns (runs : Place → Lent → RunResult) (p : Place) (l l' : Lent) (first : Party → Bool) : Type 0 where
   pub received : (runs p l).lent.received ≡ (runs p l').lent.received
       → (runs p (mixed_lent first l l')).lent.received ≡ (runs p l).lent.received

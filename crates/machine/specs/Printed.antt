@@ -30,7 +30,7 @@ sentence InputsUsed = codes "all inputs are used; lend one for each store"
 sentence TapeSpent = protocols.shortage shortage.TapeSpent
 sentence ListFull = protocols.shortage shortage.ListFull
 
--- a refusal in words: `refused N: ` and its sentence; Specification: Sentences
+-- a refusal in words: `refused R: ` and its sentence; Specification: Sentences
 abbrev pub refusal : Refusal → List ℕ
 refusal r = codes "refused " ++ decimal (refusal_number r) ++ codes ": " ++ sentence r
 

@@ -81,8 +81,8 @@ mixed_tapes first b b' =
 
 -- promised by `mixed_protocol_runs`: let a protocol be played apart, and let two runs of it deliver the same words.
 -- Then a run in which each party has what it has in the one or in the other delivers these words too, and each miner
--- ends as in the run from which it has its own. So no word, not even one that the provider sends or the controller
--- receives, is made from what only another party has
+-- ends as in the run from which its part is. So no party sends a word that is made from what only another party has;
+-- this holds of the provider's words and of those for the controller too
 pub record MixedProtocolRuns {S : Type 0} (f : Protocol S Shares) (mixed : (Party → Bool) → S → S → S) : Type 0 where
   pub received : (first : Party → Bool) (s s' : S) (b b' : Tapes) → f.received s b ≡ f.received s' b'
       → f.received (mixed first s s') (mixed_tapes first b b') ≡ f.received s b

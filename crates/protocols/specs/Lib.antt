@@ -28,6 +28,6 @@ pub mod Alone
 pub mod Claims
 pub mod Apart
 pub mod Worked
--- What only contracts inside the crate use, and the claim `word_forms`: the code's rounds on whole words are those of
--- Bits and Equal.
+-- Definitions for contracts inside the crate. One claim uses them too, `word_forms`: that the code's rounds on whole
+-- words are those of Bits and Equal.
 pub mod Private

@@ -81,10 +81,10 @@ pub record Worked : Type 0 where
   pub case_7_value : let d = (deal 5).result (shares 0 0 0) (one_word 4294967295) in add (modulus 5) d.v2 d.v3 ≡ 1
   pub case_7_carries : xor_of ((rounds 5 5).result (shares 0 0 0) (one_word 4294967295)).s ≡ 4294967295
   pub case_7_sum : xor_of ((bits 5).result (shares 0 0 0) (one_word 4294967295)) ≡ 0
-  -- worked case 8: 4294967295 folds to 1
+  -- worked case 8: bit 0 of what the fold rounds leave of 4294967295 is 1
   pub case_8_ones : xor_of ((folds 5 0).result (operands (shares 0 0 0) (shares 0 0 0)) (one_word 0)).p ≡ 4294967295
   pub case_8 : folded_bit 0 ≡ 1
-  -- worked case 9: 4294967294 folds to 0
+  -- worked case 9: bit 0 of what the fold rounds leave of 4294967294 is 0
   pub case_9_start : xor_of ((folds 5 0).result (operands (shares 0 1 0) (shares 0 0 0)) (one_word 0)).p ≡ 4294967294
   pub case_9 : folded_bit 1 ≡ 0
   -- worked case 10: 65536 · 65536 is 0, in any shares and whatever is drawn

@@ -39,7 +39,7 @@ module _ {S T A B : Type 0} {f : Protocol S T} {before : Party → S → A} {aft
 
 -- ---- for each miner
 
--- if two values that are the `Same` to a miner are the same to its party before the protocol
+-- if values that are the `Same` to a miner are the same to its party before the protocol, the claim holds of it
 same_to_miner : {S A : Type 0} {f : Protocol S Shares} {before : Party → S → A} {Same : Miner → S → S → Type 0}
     → ((i : Miner) (s s' : S) → Same i s s' → before (owner i) s ≡ before (owner i) s')
     → PlayedApart f before share → SameProtocolView f Same
