@@ -1,10 +1,10 @@
 #!/usr/bin/env python3
-"""Checks that the repository depends on nothing outside it: no tracked file cites a document by number, an item of an
-outside list, or a folder of a machine. And that its own citations hold: each rule that is cited is a heading of
-docs/SPECIFICATION.md; docs/CLAIMS.md cites each rule there; each relative link and each path of a page leads to a file,
-and to a heading if it names one; only CHANGELOG.md and docs/history/ link into docs/history/. Prints what is wrong,
-with file and line, and fails, or prints how many files, citations and links it read. It first tries itself on wrong
-texts of each kind; `--try` does only that."""
+"""Checks that the repository depends on nothing outside it: no tracked file, in its text or its name, cites a document
+by number, an item of an outside list, or a folder of a machine. And that its own citations hold: each rule that is
+cited is a heading of docs/SPECIFICATION.md; docs/CLAIMS.md cites each rule there; each relative link of a page, and
+each path that a page or a comment names, leads to a file, and to a heading if it names one; only CHANGELOG.md and
+docs/history/ link into docs/history/. Prints what is wrong, with file and line, and fails, or prints how many files,
+citations and links it read. It first tries itself on wrong texts of each kind; `--try` does only that."""
 import io
 import pathlib
 import re
